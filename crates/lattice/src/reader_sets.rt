@@ -1,0 +1,37 @@
+// Levels as sets of the parties that may read.
+ghost use Rattle.lattice.specs.ReaderSets.{readerSets};
+use crate::Lattice;
+
+/// The sets of sixteen parties: bit i of a code lets party i read. The more readers, the lower the level.
+#[derive(Clone, Copy)]
+pub struct ReaderSets;
+
+// Everybody may read: the lowest level, and the largest known code.
+const EVERYBODY: u32 = 65535;
+
+// Nobody may read: the highest level.
+const NOBODY: u32 = 0;
+
+pub impl Lattice for ReaderSets as ReaderSetsLattice {
+    ghost lattice = { λ _. readerSets };
+
+    fn known(&self, code: u32) -> bool {
+        code <= EVERYBODY
+    }
+
+    fn below(&self, a: u32, b: u32) -> bool {
+        a & b == b && self.known(a)
+    }
+
+    fn join(&self, a: u32, b: u32) -> u32 {
+        if self.known(a) && self.known(b) { a & b } else { NOBODY }
+    }
+
+    fn lowest(&self) -> u32 {
+        EVERYBODY
+    }
+
+    fn highest(&self) -> u32 {
+        NOBODY
+    }
+}

@@ -1,0 +1,3 @@
+pub mod Policy
+pub mod Masks
+pub mod Rows

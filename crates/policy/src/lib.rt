@@ -1,0 +1,5 @@
+// Erasure policies as rows of guarded levels.
+mod row;
+
+pub use row::GuardedLevel;
+pub use row::Row;
