@@ -1,3 +1,4 @@
 pub mod Policy
 pub mod Masks
 pub mod Rows
+pub mod Shapes

@@ -42,3 +42,8 @@ withLevel row level guard =
 -- a node that is met before the first leaf is on the present side of all nodes above it, so its condition wipes
 abbrev pub withNode : Row → ℕ → Row
 withNode row c = record { levels = row .levels; count = row .count; wipers = cond (eqb (row .count) 0) (including c (row .wipers)) (row .wipers) }
+
+-- what reading a policy, in the order in which it is written and under this guard, leaves in a row
+unfoldable pub filled : ℕ → Policy → Row → Row
+filled guard (leaf level) row = withLevel row level guard
+filled guard (erase c present later) row = filled (including c guard) later (filled guard present (withNode row c))

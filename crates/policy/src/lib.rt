@@ -3,3 +3,4 @@ mod row;
 
 pub use row::GuardedLevel;
 pub use row::Row;
+pub use row::condition_bit;

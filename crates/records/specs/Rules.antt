@@ -2,6 +2,8 @@
 use mathlib.Core.Bool.{Bool, cond}
 use mathlib.Core.List.{List, [], _∷_}
 use Prim.Native.Nat.{ℕ, zero, suc, _+_}
+use Rattle.std.specs.declared.result.Result.{Result}
+use Rattle.std.specs.declared.result.Result.the-variants.{Ok, Err}
 use Rattle.records.specs.declared.refusal.Refusal.{Refusal}
 use Rattle.records.specs.Refusals.{refusal}
 
@@ -9,6 +11,9 @@ use Rattle.records.specs.Refusals.{refusal}
 pub data Reading (X : Type 0) : Type 0 where
   accepted : X → Reading X
   refused : Refusal → Reading X
+
+abbrev pub refusedBy : {X : Type 0} → ℕ → ℕ → ℕ → Reading X
+refusedBy number place detail = refused (refusal number place detail)
 
 -- a rule as it is asked: what a refusal by it says, and whether it holds
 pub record Rule : Type 0 where
@@ -27,3 +32,8 @@ eachFrom i (suc k) f = f i ∷ eachFrom (i + 1) k f
 abbrev pub first : {X : Type 0} → List Rule → Reading X → Reading X
 first [] next = next
 first (q ∷ qs) next = cond (q .holds) (first qs next) (refused (q .refusal))
+
+-- the same as the result of a check: a value, if every rule holds
+abbrev pub judged : {X : Type 0} → List Rule → X → Result X Refusal
+judged [] x = Ok x
+judged (q ∷ qs) x = cond (q .holds) (judged qs x) (Err (q .refusal))

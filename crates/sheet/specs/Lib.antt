@@ -1,1 +1,10 @@
 pub mod Sheet
+pub mod Written
+pub mod Valid
+pub mod Rules
+pub mod Acceptance
+pub mod Table
+pub mod Letters
+pub mod Checks
+pub mod Reading
+pub mod Reader

@@ -1,0 +1,14 @@
+pub mod Records
+pub mod Steps
+pub mod Closed
+pub mod Accepted
+pub mod Accepting
+pub mod Acceptance
+pub mod Tables
+pub mod TreeSteps
+pub mod Tabulating
+pub mod LetterSteps
+pub mod VariableSteps
+pub mod PermitSteps
+pub mod ItemSteps
+pub mod SheetSteps

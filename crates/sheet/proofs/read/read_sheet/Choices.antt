@@ -1,0 +1,14 @@
+use mathlib.Core.Path.{_≡_}
+use Prim.Native.Nat.{_+_, _*_, _≤_}
+use lib.ListN.{length}
+use Rattle.records.specs.Records.{records}
+use Rattle.sheet.proofs.SheetSteps.{Far}
+use Rattle.sheet.proofs.read.read_sheet.Given as given
+
+abbrev pub Inv-loop-first : given.InvT-loop-first
+Inv-loop-first g l =
+    (8 * l .place + length (l .left) ≡ length (l .bytes)) × (l .table .conditions ≤ 16)
+    × Far (g .L·Lattice .lattice (l .lattice)) (l .known) (l .bytes) (l .table) (l .place) (records (l .left))
+
+abbrev pub μ-loop-first : given.MeasureT-loop-first
+μ-loop-first g l = length (l .left)
