@@ -1,2 +1,4 @@
 pub mod Masks
 pub mod Filled
+pub mod Orders
+pub mod RowLevels

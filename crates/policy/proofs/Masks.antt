@@ -12,7 +12,7 @@ use lib.Dec.{eqb}
 use Rattle.std.proofs.shelf.Bits.{pow-pos, pow-add, shl-shr, shr-shr, pow-below, one-shl}
 use Rattle.std.proofs.shelf.Tests.{cases-bool, cases-order, both-ways, eqb-true, eqb-false, eq-eqb, ne-eqb, cases-eq, and-parts, and-from, or-cases, or-left, or-right}
 use Rattle.policy.specs.Policy.{Set, Policy, leaf, erase, wipes, wipedBy}
-use Rattle.policy.specs.Masks.{bit}
+use Rattle.policy.specs.Masks.{bit, members, hasFirst, within}
 use Rattle.policy.specs.Rows.{including}
 
 two : (a : ℕ) → a % 2 < 2
@@ -160,6 +160,78 @@ same-bits a b f =
     never : (x : Bool) → cond x (not x) x ≡ false
     never true = refl
     never false = refl
+
+-- two tests that follow from each other
+same-tests : (x y : Bool) → (x ≡ true → y ≡ true) → (y ≡ true → x ≡ true) → x ≡ y
+same-tests true y f h = sym (f refl)
+same-tests false true f h = h refl
+same-tests false false f h = refl
+
+has-first : (n mask : ℕ) (s : Set) → ((c : ℕ) → c < n → bit c mask ≡ true → s c ≡ true) → hasFirst n mask s ≡ true
+unfolding hasFirst
+has-first zero mask s f = refl
+has-first (suc n) mask s f = and-from _ _ (here (bit n mask) (f n (omega arith))) (has-first n mask s (λ c h. f c (omega arith)))
+  where
+    here : (b : Bool) → (b ≡ true → s n ≡ true) → (not b || s n) ≡ true
+    here true h = h refl
+    here false h = refl
+
+first-has : (n mask : ℕ) (s : Set) → hasFirst n mask s ≡ true → (c : ℕ) → c < n → bit c mask ≡ true → s c ≡ true
+unfolding hasFirst
+first-has zero mask s e c h b = absurd (omega arith)
+first-has (suc n) mask s e c h b =
+    let parts = and-parts (not (bit n mask) || s n) (hasFirst n mask s) e in
+    elim (cases-eq c n) [
+      | inl i ↦ ap s i ∙ (elim (or-cases (not (bit n mask)) (s n) (parts .0)) [ inl u ↦ absurd (both-ways _ (ap not (ap (λ (m : ℕ). bit m mask) (sym i) ∙ b)) u) | inr u ↦ u ])
+      | inr i ↦ first-has n mask s (parts .1) c (omega (arith, i)) b
+    ]
+
+-- a guard lies in a set when the set has its members, of which there are sixteen
+pub within-from : (mask : ℕ) (s : Set) → ((c : ℕ) → c < 16 → bit c mask ≡ true → s c ≡ true) → within mask s ≡ true
+within-from = has-first 16
+
+pub within-member : (mask : ℕ) (s : Set) → within mask s ≡ true → (c : ℕ) → c < 16 → bit c mask ≡ true → s c ≡ true
+within-member = first-has 16
+
+pub within-none : (s : Set) → within 0 s ≡ true
+within-none s = within-from 0 s (λ c h b. absurd (both-ways _ (bit-zero c) b))
+
+pub within-itself : (mask : ℕ) → within mask (members mask) ≡ true
+within-itself mask = within-from mask (members mask) (λ c h b. b)
+
+-- what lies in a guard lies where the guard lies
+pub within-more : (u mask : ℕ) (s : Set) → within mask s ≡ true → within u (members mask) ≡ true → within u s ≡ true
+within-more u mask s h k = within-from u s (λ c i b. within-member mask s h c i (within-member u (members mask) k c i b))
+
+pub within-including : (c mask : ℕ) (s : Set) → c < 16 → within (including c mask) s ≡ (within mask s && s c)
+within-including c mask s h =
+    same-tests _ _
+    (λ e. and-from _ _ (within-from mask s (λ d i b. within-member (including c mask) s e d i (bit-including c mask d h ∙ or-right (eqb d c) _ b)))
+    (within-member (including c mask) s e c h (bit-including c mask c h ∙ or-left _ (bit c mask) (eq-eqb c c refl))))
+    (λ e. let parts = and-parts (within mask s) (s c) e in
+    within-from (including c mask) s
+    (λ d i b. elim (or-cases (eqb d c) (bit d mask) (sym (bit-including c mask d h) ∙ b)) [
+      | inl q ↦ ap s (eqb-true d c q) ∙ parts .1
+      | inr q ↦ within-member mask s (parts .0) d i q
+    ]))
+
+-- the test `guard & set == guard`
+pub within-test : (mask u : ℕ) → mask < 2 ^ 16 → eqb (bitAnd mask u) mask ≡ within mask (members u)
+within-test mask u h =
+    same-tests _ _
+    (λ e. within-from mask (members u) (λ c i b. and-parts (bit c mask) (bit c u) (sym (bit-and c mask u) ∙ ap (bit c) (eqb-true (bitAnd mask u) mask e) ∙ b) .1))
+    (λ e. eq-eqb _ _ (same-bits (bitAnd mask u) mask (λ c. bit-and c mask u ∙ both e c (cases-bool (bit c mask)))))
+  where
+    small : (c : ℕ) → bit c mask ≡ true → c < 16
+    small c b =
+        elim (cases-order c 16) [
+          | inl i ↦ absurd (both-ways _ (bit-high 16 c mask h (omega arith)) b)
+          | inr o ↦ elim o [ inl i ↦ i | inr i ↦ absurd (both-ways _ (bit-high 16 c mask h (omega arith)) b) ]
+        ]
+
+    both : within mask (members u) ≡ true → (c : ℕ) → (bit c mask ≡ true) ⊎ (bit c mask ≡ false) → (bit c mask && bit c u) ≡ bit c mask
+    both e c (inl b) = and-from _ _ b (within-member mask (members u) e c (small c b) b) ∙ sym b
+    both e c (inr b) = ap (λ x. x && bit c u) b ∙ sym b
 
 some-wiper : (s : Set) (p : Policy) → wipedBy s p ≡ true → (c : ℕ) × (wipes c p ≡ true) × (s c ≡ true)
 some-wiper s (leaf l) h = absurd (both-ways false refl h)

@@ -2,3 +2,4 @@ pub mod Policy
 pub mod Masks
 pub mod Rows
 pub mod Shapes
+pub mod RowLevels

@@ -3,7 +3,7 @@
 use mathlib.Core.Bool.{Bool, true, false, cond, not, _||_}
 use mathlib.Core.List.{List, [], _∷_, _++_}
 use mathlib.Core.Path.{_≡_}
-use Prim.Native.Nat.{ℕ, _+_, _*_, _^_, _%_}
+use Prim.Native.Nat.{ℕ, _+_, _*_, _^_, _%_, _<_}
 use lib.Bits.{bitOr}
 use lib.Dec.{eqb, ltb}
 use lib.ListN.{set, take, replicate}
@@ -26,13 +26,23 @@ guardedLevels guard (erase c present later) = guardedLevels guard present ++ gua
 abbrev pub levelsIn : Row → List GuardedLevel
 levelsIn row = take (row .count) (row .levels)
 
+-- all conditions of the policy have a bit in a mask
+abbrev pub SmallConditions : Policy → Type 0
+SmallConditions (leaf level) = Unit {0}
+SmallConditions (erase c present later) = (c < 16) × SmallConditions present × SmallConditions later
+
 -- the row has the policy's guarded levels and its wipers
 pub record Holds (row : Row) (p : Policy) : Type 0 where
+  pub conditions : SmallConditions p
   pub levels : levelsIn row ≡ guardedLevels 0 p
   pub wipers : (c : ℕ) → bit c (row .wipers) ≡ wipes c p
 
+-- what stands in a place that no leaf has taken
+abbrev pub noLeaf : GuardedLevel
+noLeaf = record { level = 0; guard = 0 }
+
 abbrev pub blank : Row
-blank = record { levels = replicate 8 record { level = 0; guard = 0 }; count = 0; wipers = 0 }
+blank = record { levels = replicate 8 noLeaf; count = 0; wipers = 0 }
 
 -- one more guarded level; a ninth has no place
 abbrev pub withLevel : Row → ℕ → ℕ → Row

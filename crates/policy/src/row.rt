@@ -2,7 +2,9 @@
 ghost use mathlib.Core.Path.{_≡_};
 ghost use Prim.Native.Nat.{_*_, _^_, _%_};
 ghost use lib.ListN.{getD};
-ghost use Rattle.policy.specs.Rows.{blank, withLevel, withNode};
+ghost use Rattle.policy.specs.Rows.{noLeaf, blank, levelsIn, withLevel, withNode};
+ghost use Rattle.policy.specs.RowLevels.{LevelOf, FlowDecided};
+use lattice::Lattice;
 
 /// A leaf of a policy: its level, and as a mask the conditions on whose later side it lies.
 #[derive(Clone, Copy)]
@@ -59,8 +61,41 @@ impl Row {
 
     /// The level of the first leaf, which is the policy's present level.
     pub fn present_level(&self) -> u32
-        ensures { λ r. ⌜ r ≡ getD (now (self .entry) .levels) 0 record { level = 0; guard = 0 } .level ⌝ }
+        ensures { λ r. ⌜ r ≡ getD (now (self .entry) .levels) 0 noLeaf .level ⌝ }
     {
         self.levels[0].level
+    }
+
+    // The leaves, eight of them where the count is beyond eight.
+    fn leaves(&self) -> &[GuardedLevel]
+        ensures { λ r. ⌜ now r ≡ levelsIn (now (self .entry)) ⌝ }
+    {
+        let levels: &[GuardedLevel] = &self.levels;
+        &levels[..self.count.min(levels.len())]
+    }
+
+    /// The level once the conditions of a set have come up: the join of the levels whose guard lies in the set.
+    pub fn level_under<L: Lattice>(&self, lattice: &L, set: u16) -> u32
+        ensures { λ r. ⌜ LevelOf (L·Lattice .lattice (now (lattice .entry))) (now (self .entry)) set r ⌝ }
+    {
+        let mut level = lattice.lowest();
+        for leaf in self.leaves() {
+            if leaf.guard & set == leaf.guard {
+                level = lattice.join(level, leaf.level);
+            }
+        }
+        level
+    }
+
+    /// Whether, whatever comes up, the level of this row is below that of the other.
+    pub fn flows_to<L: Lattice>(&self, lattice: &L, other: &Row) -> bool
+        ensures { λ r. ⌜ FlowDecided (L·Lattice .lattice (now (lattice .entry))) (now (self .entry)) (now (other .entry)) r ⌝ }
+    {
+        for leaf in self.leaves() {
+            if !lattice.below(leaf.level, other.level_under(lattice, leaf.guard)) {
+                return false;
+            }
+        }
+        true
     }
 }

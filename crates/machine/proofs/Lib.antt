@@ -1,0 +1,13 @@
+pub mod Orders
+pub mod Policies
+pub mod Memories
+pub mod Runs
+pub mod Loops
+pub mod Asking
+pub mod Wiping
+pub mod Steps
+pub mod Histories
+pub mod SameOrders
+pub mod Promises
+pub mod Examples
+pub mod Sample

@@ -1,0 +1,11 @@
+pub mod Command
+pub mod SoundSheet
+pub mod Typing
+pub mod Memory
+pub mod Run
+pub mod Calls
+pub mod Machine
+pub mod Observation
+pub mod Promises
+pub mod Examples
+pub mod Sample
