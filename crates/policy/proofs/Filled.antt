@@ -11,9 +11,9 @@ use Rattle.std.proofs.shelf.Tests.{ne-eqb, lt-ltb}
 use Rattle.policy.specs.declared.row.GuardedLevel.{GuardedLevel}
 use Rattle.policy.specs.declared.row.Row.{Row}
 use Rattle.lattice.specs.Lattice.{Lattice}
-use Rattle.policy.specs.Policy.{Policy, leaf, erase, wipes, presentLevel}
+use Rattle.policy.specs.Policy.{Policy, leaf, erase, wipes, presentLevel, ConditionsBelow}
 use Rattle.policy.specs.Masks.{bit}
-use Rattle.policy.specs.Rows.{including, guardedLevels, levelsIn, SmallConditions, Holds, blank, withLevel, withNode, filled}
+use Rattle.policy.specs.Rows.{including, guardedLevels, levelsIn, Holds, blank, withLevel, withNode, filled}
 use Rattle.policy.specs.Shapes.{Shaped, room}
 use Rattle.policy.proofs.Masks.{bit-including, bit-zero}
 
@@ -108,16 +108,16 @@ pub first-level : (C : Lattice) (g : ℕ) (p : Policy) (xs : List GuardedLevel) 
 first-level C g (leaf l) xs d = refl
 first-level C g (erase c p q) xs d = ap (λ l. getD l 0 d .level) (append-assoc (guardedLevels g p) (guardedLevels (including c g) q) xs) ∙ first-level C g p (guardedLevels (including c g) q ++ xs) d
 
-small-conditions : (n d : ℕ) (p : Policy) → n ≤ 16 → Shaped n d p → SmallConditions p
-small-conditions n d (leaf l) h s = tt
-small-conditions n d (erase c p q) h s = (omega (arith, s .0), small-conditions n (d + 1) p h (s .2), small-conditions n (d + 1) q h (s .3))
+shaped-conditions : (n d : ℕ) (p : Policy) → n ≤ 16 → Shaped n d p → ConditionsBelow 16 p
+shaped-conditions n d (leaf l) h s = tt
+shaped-conditions n d (erase c p q) h s = (omega (arith, s .0), shaped-conditions n (d + 1) p h (s .2), shaped-conditions n (d + 1) q h (s .3))
 
 -- a row that was filled from nothing holds the policy
 pub filled-holds : (n : ℕ) (p : Policy) → n ≤ 16 → Shaped n 1 p → Holds (filled 0 p blank) p
 filled-holds n p h s =
     let fits : 0 + leaves p ≤ 8 = omega (arith, shaped-room n 1 p (omega arith) s) in
     record {
-      conditions = small-conditions n 1 p h s;
+      conditions = shaped-conditions n 1 p h s;
       levels = filled-levels 0 p blank refl fits .1;
       wipers = λ c. filled-wipers n 1 0 p blank h s fits c ∙ ap (λ b. b || wipes c p) (bit-zero c);
     }

@@ -15,9 +15,9 @@ use Rattle.std.proofs.shelf.Tests.{both-ways, cases-bool, eq-eqb, ne-eqb}
 use Rattle.lattice.specs.Lattice.{Lattice, Lawful, Known, Below}
 use Rattle.policy.specs.declared.row.GuardedLevel.{GuardedLevel}
 use Rattle.policy.specs.declared.row.Row.{Row}
-use Rattle.policy.specs.Policy.{Set, Policy, leaf, erase, levelUnder, FlowsTo, KnownLevels}
+use Rattle.policy.specs.Policy.{Set, Policy, leaf, erase, levelUnder, FlowsTo, KnownLevels, ConditionsBelow}
 use Rattle.policy.specs.Masks.{members, within}
-use Rattle.policy.specs.Rows.{including, guardedLevels, levelsIn, noLeaf, SmallConditions, Holds}
+use Rattle.policy.specs.Rows.{including, guardedLevels, levelsIn, noLeaf, Holds}
 use Rattle.policy.specs.RowLevels.{joinUnder, rowLevelUnder, LevelOf, AllKnown, RowFlowsTo, FlowDecided}
 use Rattle.policy.proofs.Masks.{within-none, within-itself, within-more, within-including, within-test}
 use Rattle.policy.proofs.Orders.{known-left, known-right, below-trans, join-any, below-join, join-least, join-grows, join-assoc, join-lowest}
@@ -127,7 +127,7 @@ module _ {C : Lattice} (W : Lawful C) where
   below-known (g ∷ gs) hs k = (known-left W _ _ (k .0), below-known gs hs (k .1))
 
   -- a policy's leaves, joined one by one, give its level
-  joined : (s : Set) (u : ℕ) (p : Policy) (a : ℕ) (gs : List GuardedLevel) → Known C a → KnownLevels C p → SmallConditions p
+  joined : (s : Set) (u : ℕ) (p : Policy) (a : ℕ) (gs : List GuardedLevel) → Known C a → KnownLevels C p → ConditionsBelow 16 p
       → joinUnder C s a (guardedLevels u p ++ gs) ≡ joinUnder C s (cond (within u s) (C .join a (levelUnder C s p)) a) gs
   unfolding joinUnder
   joined s u (leaf l) a gs h k c = refl

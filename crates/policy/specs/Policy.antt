@@ -2,7 +2,7 @@
 -- and the later part who may know it once the condition has come up.
 use mathlib.Core.Bool.{Bool, true, false, cond, _||_}
 use mathlib.Core.Path.{_≡_}
-use Prim.Native.Nat.{ℕ}
+use Prim.Native.Nat.{ℕ, _<_}
 use lib.Dec.{eqb}
 use Rattle.lattice.specs.Lattice.{Lattice, Known, Below}
 
@@ -45,3 +45,7 @@ wipedBy s (erase d p q) = s d || wipedBy s p
 abbrev pub KnownLevels : Lattice → Policy → Type 0
 KnownLevels C (leaf l) = Known C l
 KnownLevels C (erase c p q) = KnownLevels C p × KnownLevels C q
+
+abbrev pub ConditionsBelow : ℕ → Policy → Type 0
+ConditionsBelow n (leaf l) = Unit {0}
+ConditionsBelow n (erase c p q) = (c < n) × ConditionsBelow n p × ConditionsBelow n q

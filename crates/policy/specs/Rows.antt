@@ -1,16 +1,15 @@
 -- A policy as a row of guarded levels: each leaf with its level and its guard, the conditions on whose later side it lies.
 -- The leaf counts under a set just when the set has its whole guard.
-use mathlib.Core.Bool.{Bool, true, false, cond, not, _||_}
+use mathlib.Core.Bool.{cond}
 use mathlib.Core.List.{List, [], _∷_, _++_}
 use mathlib.Core.Path.{_≡_}
-use Prim.Native.Nat.{ℕ, _+_, _*_, _^_, _%_, _<_}
+use Prim.Native.Nat.{ℕ, _+_, _*_, _^_, _%_}
 use lib.Bits.{bitOr}
 use lib.Dec.{eqb, ltb}
 use lib.ListN.{set, take, replicate}
 use Rattle.policy.specs.declared.row.GuardedLevel.{GuardedLevel}
 use Rattle.policy.specs.declared.row.Row.{Row}
-use Rattle.lattice.specs.Lattice.{Lattice, Known, Below}
-use Rattle.policy.specs.Policy.{Set, Policy, leaf, erase, wipes}
+use Rattle.policy.specs.Policy.{Policy, leaf, erase, wipes, ConditionsBelow}
 use Rattle.policy.specs.Masks.{bit}
 
 -- a mask of sixteen conditions with one more
@@ -26,14 +25,9 @@ guardedLevels guard (erase c present later) = guardedLevels guard present ++ gua
 abbrev pub levelsIn : Row → List GuardedLevel
 levelsIn row = take (row .count) (row .levels)
 
--- all conditions of the policy have a bit in a mask
-abbrev pub SmallConditions : Policy → Type 0
-SmallConditions (leaf level) = Unit {0}
-SmallConditions (erase c present later) = (c < 16) × SmallConditions present × SmallConditions later
-
--- the row has the policy's guarded levels and its wipers
+-- the row has the policy's guarded levels and its wipers, and its masks have room for the conditions
 pub record Holds (row : Row) (p : Policy) : Type 0 where
-  pub conditions : SmallConditions p
+  pub conditions : ConditionsBelow 16 p
   pub levels : levelsIn row ≡ guardedLevels 0 p
   pub wipers : (c : ℕ) → bit c (row .wipers) ≡ wipes c p
 

@@ -87,7 +87,7 @@ impl Row {
         level
     }
 
-    /// Whether, whatever comes up, the level of this row is below that of the other.
+    /// Whether, whatever comes up, the level of this row is below that of the other; never where a level of it is unknown.
     pub fn flows_to<L: Lattice>(&self, lattice: &L, other: &Row) -> bool
         ensures { λ r. ⌜ FlowDecided (L·Lattice .lattice (now (lattice .entry))) (now (self .entry)) (now (other .entry)) r ⌝ }
     {
