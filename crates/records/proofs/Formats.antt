@@ -91,3 +91,19 @@ each-append P (x ∷ xs) ys f g = (f .0, each-append P xs ys (f .1) g)
 pub each-at : (bs : List ℕ) → ((i : ℕ) → getD bs i 0 < 256) → Each Byte bs
 each-at [] f = tt
 each-at (b ∷ bs) f = (f 0, each-at bs (λ i. f (suc i)))
+
+-- what stands at the front of bytes is one record only
+pub record-front : (r s : Record) (xs ys : List ℕ) → Fit r → Fit s → bytes (r ∷ []) ++ xs ≡ bytes (s ∷ []) ++ ys → (r ≡ s) × (xs ≡ ys)
+unfolding bytes
+record-front r s xs ys f g h =
+    let l : r .letter ≡ s .letter = cc h in
+    let a : r .a ≡ s .a = cc h in
+    let b : r .b ≡ s .b = cc h in
+    let c : r .c ≡ s .c = cc h in
+    let e3 : r .n / 16777216 % 256 ≡ s .n / 16777216 % 256 = cc h in
+    let e2 : r .n / 65536 % 256 ≡ s .n / 65536 % 256 = cc h in
+    let e1 : r .n / 256 % 256 ≡ s .n / 256 % 256 = cc h in
+    let e0 : r .n % 256 ≡ s .n % 256 = cc h in
+    let rest : xs ≡ ys = cc h in
+    let n : r .n ≡ s .n = sym (four (r .n) f) ∙ (λ i. e3 i * 16777216 + e2 i * 65536 + e1 i * 256 + e0 i) ∙ four (s .n) g in
+    (λ i. record { letter = l i; a = a i; b = b i; c = c i; n = n i }, rest)

@@ -4,12 +4,12 @@ pub mod rule;
 
 pub use refusal::Refusal;
 
-ghost use mathlib.Core.List.{_∷_};
+ghost use mathlib.Core.List.{[], _∷_, _++_};
 ghost use mathlib.Core.Path.{_≡_};
 ghost use lib.ListN.{length};
 ghost use Prim.Native.Nat.{ℕ, _+_, _<_};
 ghost use Rattle.std.specs.Options.{Cases};
-ghost use Rattle.records.specs.Records.{records};
+ghost use Rattle.records.specs.Records.{bytes as written, records};
 
 /// A record: its letter, three bytes and a number of four bytes, most significant first.
 #[derive(Clone, Copy)]
@@ -22,12 +22,14 @@ pub struct Record {
 }
 
 /// The first record and the bytes after it, or `None` where fewer than eight bytes are left.
-pub fn next_record(bytes: &[u8]) -> Option<(Record, &[u8])>
+pub fn next_record(input: &[u8]) -> Option<(Record, &[u8])>
     ensures { λ r. ⌜ Cases r
-        (length (now (bytes .entry)) < 8)
-        (λ p. (length (now (bytes .entry)) ≡ 8 + length (now (p .1))) × (records (now (bytes .entry)) ≡ p .0 ∷ records (now (p .1)))) ⌝ }
+        (length (now (input .entry)) < 8)
+        (λ p. (length (now (input .entry)) ≡ 8 + length (now (p .1)))
+            × (records (now (input .entry)) ≡ p .0 ∷ records (now (p .1)))
+            × (now (input .entry) ≡ written (p .0 ∷ []) ++ now (p .1))) ⌝ }
 {
-    match bytes {
+    match input {
         [letter, a, b, c, n3, n2, n1, n0, rest @ ..] => {
             let n = u32::from_be_bytes([*n3, *n2, *n1, *n0]);
             let first = Record {
