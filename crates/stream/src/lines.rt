@@ -1,0 +1,21 @@
+// Answers as lines of text.
+ghost use Rattle.std.specs.declared.option.Option.the-variants.{Some};
+ghost use Rattle.stream.specs.Lines.{text};
+use crate::answers::Answer;
+use crate::answers::Line;
+use records::Refusal;
+use std::fmt;
+
+pub impl fmt::Display for Line as LineDisplay {
+    ghost shown = { λ l. Some (text l) };
+
+    fn fmt<W: fmt::Write>(&self, f: &mut fmt::Formatter<W>) -> fmt::Result {
+        let count = self.count;
+        match self.answer {
+            Answer::Number(n) => write!(f, "{count} ok {n}"),
+            Answer::Done(turns) => write!(f, "{count} done {turns}"),
+            Answer::Spent(turns) => write!(f, "{count} spent {turns}"),
+            Answer::Refused(Refusal { number, place, detail }) => write!(f, "{count} no {number} {place} {detail}"),
+        }
+    }
+}
