@@ -1,24 +1,27 @@
 -- The worked examples.
-use mathlib.Core.Bool.{Bool, true, false, true≢false, false≢true, cond, _||_}
-use mathlib.Core.Logic.{_⊎_, inl, inr}
-use mathlib.Core.Path.{_≡_, refl, sym, ap, _∙_, subst}
-use Prim.Native.Nat.{ℕ}
+use mathlib.Core.Bool.{Bool, true, false, false≢true, cond, _||_}
+use mathlib.Core.Logic.{inl, inr}
+use mathlib.Core.Path.{_≡_, refl, sym, subst}
+use Prim.Native.Nat.{ℕ, zero, suc}
 use native.Mathlib.Omega.{arith}
 use lib.Dec.{eqb, leb}
 use Rattle.std.specs.shelf.Signed.{wrapped}
 use Rattle.std.proofs.shelf.Tests.{or-cases, or-left, or-right, eqb-true, eq-eqb, and-parts, leb-true}
 use Rattle.lattice.specs.Lattice.{Lattice, Below}
 use Rattle.lattice.specs.Chain.{chain}
-use Rattle.policy.specs.Policy.{Set, none, add, Policy, leaf, erase, levelUnder, presentLevel, wipes, wipedBy, FlowsTo}
-use Rattle.sheet.specs.Sheet.{Sheet, policyOf}
-use Rattle.machine.specs.Typing.{top, underVariable, ContextFlowsTo}
-use Rattle.machine.specs.Examples.{MachineExamples, transient}
+use Rattle.policy.specs.Policy.{none, add, Policy, leaf, erase, levelUnder, wipes, wipedBy, FlowsTo}
+use Rattle.policy.specs.Masks.{bit}
+use Rattle.sheet.specs.Sheet.{Sheet, policyOf, levelOf}
+use Rattle.machine.specs.Typing.{outermost, underVariable, ContextFlowsTo}
+use Rattle.machine.specs.Run.{permitted}
+use Rattle.machine.specs.Examples.{MachineExamples, ReleaseWellTyped, permitting, transient}
+use Rattle.machine.proofs.Loops.{while-law}
 use Rattle.machine.proofs.Policies.{lifted-wiped}
 
-pub from-top : (C : Lattice) (sh : Sheet) (p : Policy) → ContextFlowsTo C sh top p
+pub from-top : (C : Lattice) (sh : Sheet) (p : Policy) → ContextFlowsTo C sh outermost p
 from-top C sh p = record { variables = λ v h. absurd (false≢true h); conditions = λ c h. absurd (false≢true h) }
 
-under-one : (C : Lattice) (sh : Sheet) (v : ℕ) (p : Policy) → FlowsTo C (policyOf sh v) p → ContextFlowsTo C sh (underVariable v top) p
+under-one : (C : Lattice) (sh : Sheet) (v : ℕ) (p : Policy) → FlowsTo C (policyOf sh v) p → ContextFlowsTo C sh (underVariable v outermost) p
 under-one C sh v p f = record { variables = λ w h. elim (or-cases (eqb w v) false h) [ inl e ↦ subst (λ (i : ℕ). FlowsTo C (policyOf sh i) p) (sym (eqb-true w v e)) f | inr e ↦ absurd (false≢true e) ]; conditions = λ c h. absurd (false≢true h) }
 
 transient-flows : FlowsTo (chain 3) transient transient
@@ -39,9 +42,21 @@ top-not-below l h = go (chain 3 .below l 1) refl
     go true e = absurd (omega (arith, leb-true 3 l (and-parts (leb 3 l) (leb l 3) h .0), leb-true l 1 (and-parts (leb l 1) true e .0)))
     go false e = refl
 
+release-accepted : ReleaseWellTyped 1 (leaf 3) (leaf 1)
+release-accepted = (refl, refl, refl, record { variables = λ v h. absurd (false≢true h); conditions = λ c h. low c }, flows, (λ s. refl))
+  where
+    low : (c : ℕ) → Below (chain 3) (levelOf (permitting 1 (leaf 3) (leaf 1)) c) 1
+    low zero = refl
+    low (suc zero) = refl
+    low (suc (suc c)) = refl
+
+    flows : FlowsTo (chain 3) (leaf 1) (erase 1 (leaf 1) (leaf 1))
+    flows s = elim (s 1) as (λ b. Below (chain 3) 1 (cond b 1 1)) [ true ↦ refl | false ↦ refl ]
+
 pub machine-examples : MachineExamples
-unfolding wrapped
+unfolding wrapped bit permitted
 machine-examples = record {
+  loops = while-law;
   sums-wrap = refl;
   less-is-signed = refl;
   countdown-well-typed =
@@ -56,4 +71,12 @@ machine-examples = record {
   readable-count-wiped = λ p h w.
       let flows = w .0 .1 .0 .1 .variables 0 refl (add 0 none) in
       wiped-by-one 0 p (lifted-wiped (chain 3) 1 (add 0 none) p h (top-not-below (levelUnder (chain 3) (add 0 none) p) flows));
+  later-part-wipes-nothing = refl;
+  shut-permit-stores-zero = refl;
+  open-permit-stores-the-value = refl;
+  dropped-release-stores-nothing = refl;
+  release-accepted = release-accepted;
+  source-flows-to-from = λ w. false≢true (w .5 none);
+  to-flows-to-target = λ w. false≢true (w .4 none);
+  permit-conditions-flow = λ w. false≢true (w .3 .conditions 0 refl);
 }

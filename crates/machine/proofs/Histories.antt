@@ -7,7 +7,7 @@ use native.Mathlib.Omega.{arith}
 use lib.IntN.{ℤ}
 use Rattle.machine.specs.Calls.{Call, Answer}
 use Rattle.machine.specs.Machine.{System, State, Event, step, event, history, final}
-use Rattle.machine.specs.Observation.{Observer, hidden, observed, observedCalls, observedAnswers, observedReleases, releasedAt}
+use Rattle.machine.specs.Observation.{Observer, hidden, observed, observedCalls, observedAnswers, observedReleases}
 use Rattle.machine.proofs.Steps.{Setting, Twin, twin-sym, Seen, seen, struck}
 
 never-cons : {A : Type 0} (x : A) (xs : List A) → [] ≡ (x ∷ xs) → ⊥

@@ -1,5 +1,7 @@
 pub mod Orders
 pub mod Policies
+pub mod Every
+pub mod Values
 pub mod Memories
 pub mod Runs
 pub mod Loops
@@ -11,3 +13,4 @@ pub mod SameOrders
 pub mod Promises
 pub mod Examples
 pub mod Sample
+pub mod Needed

@@ -1,15 +1,15 @@
 -- Low equivalence: two memories that an observer cannot tell apart, and what keeps them so.
 use mathlib.Core.Bool.{Bool, true, false, true≢false, false≢true, cond}
-use mathlib.Core.List.{List, []}
+use mathlib.Core.List.{List}
 use mathlib.Core.Path.{_≡_, refl, sym, ap, _∙_, fun-ext}
 use Prim.Native.Nat.{ℕ}
 use lib.IntN.{ℤ, pos}
 use lib.ListN.{length, List·getD-eq-default}
 use lib.Dec.{eqb}
 use Rattle.std.proofs.shelf.Tests.{ltb-false, eqb-true}
-use Rattle.lattice.specs.Lattice.{Lattice, Lawful, Known, Below}
-use Rattle.policy.specs.Policy.{Set, Policy, leaf, wipes, wipedBy}
-use Rattle.sheet.specs.Sheet.{Sheet, Variable, policyOf, levelOf, declaredVariable}
+use Rattle.lattice.specs.Lattice.{Lattice, Lawful, Known}
+use Rattle.policy.specs.Policy.{Set, leaf, wipes, wipedBy}
+use Rattle.sheet.specs.Sheet.{Sheet, Variable, policyOf, declaredVariable}
 use Rattle.machine.specs.SoundSheet.{SoundSheet, HasVariable}
 use Rattle.machine.specs.Memory.{Memory, update, write, raised, lowered}
 use Rattle.machine.specs.Run.{Release}

@@ -1,12 +1,12 @@
 -- Policies under sets of conditions, and the conditions that wipe.
-use mathlib.Core.Bool.{Bool, true, false, true≢false, cond, _||_}
-use mathlib.Core.Logic.{_⊎_, inl, inr}
+use mathlib.Core.Bool.{true, false, true≢false, cond, _||_}
+use mathlib.Core.Logic.{inl, inr}
 use mathlib.Core.Path.{_≡_, refl, sym, ap, _∙_}
 use Prim.Native.Nat.{ℕ}
 use lib.Dec.{eqb}
 use Rattle.std.proofs.shelf.Tests.{or-cases, or-left, or-right, eq-eqb, eqb-true}
 use Rattle.lattice.specs.Lattice.{Lattice, Lawful, Known, Below}
-use Rattle.policy.specs.Policy.{Set, none, Policy, leaf, erase, levelUnder, presentLevel, KnownLevels, wipes, wipedBy}
+use Rattle.policy.specs.Policy.{Set, Policy, leaf, erase, levelUnder, presentLevel, KnownLevels, wipes, wipedBy}
 use Rattle.machine.proofs.Orders.{chain}
 
 module _ {C : Lattice} (W : Lawful C) where

@@ -3,12 +3,13 @@ use mathlib.Core.Bool.{Bool, true, false, cond}
 use mathlib.Core.List.{List}
 use mathlib.Core.Path.{_≡_, refl, sym, ap, _∙_, subst, fun-ext}
 use Prim.Native.Nat.{ℕ}
-use Rattle.lattice.specs.Lattice.{Lattice, Known}
+use Rattle.lattice.specs.Lattice.{Known, Lawful}
 use Rattle.policy.specs.Policy.{Set, none}
 use Rattle.sheet.specs.Sheet.{Sheet, policyOf, declaredVariable}
 use Rattle.machine.specs.Memory.{Memory}
-use Rattle.machine.specs.Machine.{System, State, bare, ready, final}
-use Rattle.machine.specs.Observation.{observableVariable}
+use Rattle.machine.specs.Calls.{Call}
+use Rattle.machine.specs.Machine.{Readers, System, State, bare, history, final}
+use Rattle.machine.specs.Observation.{SameInput, observedAnswers}
 use Rattle.machine.specs.Promises.{AllUp, SoundReaders, SameKind, observing, HiddenCallsLeaveNoTrace, WipedValuesLeaveNoTrace}
 use Rattle.machine.proofs.Policies.{lifted-wiped, wiped-more}
 use Rattle.machine.proofs.Memories.{visible, sees, Agree}
@@ -41,23 +42,49 @@ module _ (S : System) (level : ℕ) (s : Set) where
   uncover bares u u′ z z′ = bares
   uncover (readies {sh = sh} {p = p} {m = m} {m′ = m′} A w a) u u′ z z′ = readies {p = p} A w (uncovered sh m m′ u u′ z z′ a)
 
-module _ (S T : System) (k : SameKind S T) where
+-- the promises on two given systems
+abbrev Hides : System → System → Type 0
+Hides S T =
+    (level : ℕ) → Known (S .lattice) level → (s : Set) (cs ds : List Call) →
+    SameInput (S .lattice) (T .lattice) (observing level s) (history S bare cs) (history T bare ds) →
+    observedAnswers (S .lattice) (observing level s) (history S bare cs) ≡ observedAnswers (T .lattice) (observing level s) (history T bare ds)
+
+abbrev Forgets : System → System → Type 0
+Forgets S T =
+    (level : ℕ) → Known (S .lattice) level → (s : Set) (cs ds cs′ ds′ : List Call) →
+    AllUp s (final S bare cs) → AllUp s (final T bare ds) →
+    SameInput (S .lattice) (T .lattice) (observing level s) (history S bare cs) (history T bare ds) →
+    SameInput (S .lattice) (T .lattice) (observing level none) (history S (final S bare cs) cs′) (history T (final T bare ds) ds′) →
+    observedAnswers (S .lattice) (observing level none) (history S (final S bare cs) cs′)
+    ≡ observedAnswers (T .lattice) (observing level none) (history T (final T bare ds) ds′)
+
+module _ (S : System) (W : Lawful (S .lattice)) (R : SoundReaders (S .readers)) where
   setting : (level : ℕ) (s : Set) → Known (S .lattice) level → Setting S (observing level s)
-  setting level s K = record { lawful = k .lawful; readers = k .sound; level = K }
+  setting level s K = record { lawful = W; readers = R; level = K }
 
-  -- two boxes of one kind stand on the same system
-  same-system : S ≡ T
-  same-system = λ i. record { lattice = same-lattice (k .lawful) (k .lawful′) (k .order) i; readers = k .readers i; image = fun-ext (k .image) i }
+  hides : Hides S S
+  hides level K s cs ds a = follow (setting level s K) cs ds bare bare bares (a .calls) (a .releases) .answers
 
-  pub hidden-calls : HiddenCallsLeaveNoTrace S T
-  hidden-calls =
-      subst (HiddenCallsLeaveNoTrace S) same-system (λ level K s cs ds a. follow (setting level s K) cs ds bare bare bares (a .calls) (a .releases) .answers)
-
-  wiped-values-here : WipedValuesLeaveNoTrace S S
-  wiped-values-here level K s cs ds cs′ ds′ u u′ a a′ =
+  forgets : Forgets S S
+  forgets level K s cs ds cs′ ds′ u u′ a a′ =
       let f = follow (setting level s K) cs ds bare bare bares (a .calls) (a .releases) in
       let t = uncover S level s (f .twin) u u′ (clean-final S bare cs tt) (clean-final S bare ds tt) in
       follow (setting level none K) cs′ ds′ (final S bare cs) (final S bare ds) t (a′ .calls) (a′ .releases) .answers
 
-  pub wiped-values : WipedValuesLeaveNoTrace S T
-  wiped-values = subst (WipedValuesLeaveNoTrace S) same-system wiped-values-here
+module _ (R : Readers) (sound : SoundReaders R) where
+  sound-here : {S T : System} → SameKind R S T → SoundReaders (S .readers)
+  sound-here k = subst SoundReaders (sym (k .readers)) sound
+
+  -- two boxes of one kind stand on the same system
+  same-system : {S T : System} → SameKind R S T → S ≡ T
+  same-system k = λ i. record {
+    lattice = same-lattice (k .lawful) (k .lawful′) (k .order) i;
+    readers = (k .readers ∙ sym (k .readers′)) i;
+    image = fun-ext (k .image) i;
+  }
+
+  pub hidden-calls : HiddenCallsLeaveNoTrace R
+  hidden-calls S T k = subst (Hides S) (same-system k) (hides S (k .lawful) (sound-here k))
+
+  pub wiped-values : WipedValuesLeaveNoTrace R
+  wiped-values S T k = subst (Forgets S) (same-system k) (forgets S (k .lawful) (sound-here k))

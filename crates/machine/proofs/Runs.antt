@@ -1,5 +1,5 @@
 -- A pass: what a secret decides shows nowhere, and two memories that agree still agree after it.
-use mathlib.Core.Bool.{Bool, true, false, true≢false, false≢true, cond, _||_}
+use mathlib.Core.Bool.{Bool, true, false, true≢false, false≢true, cond}
 use mathlib.Core.List.{List, [], _∷_, _++_, append-assoc}
 use mathlib.Core.Path.{_≡_, refl, sym, ap, ap₂, _∙_, subst, subst₂}
 use Prim.Native.Nat.{ℕ, zero, suc}
@@ -13,7 +13,7 @@ use Rattle.sheet.specs.Sheet.{policyOf, levelOf, permitAt}
 use Rattle.machine.specs.Command.{Command, skip, _⨾_, set, combine, release, raise, ifVariable, ifCondition, while}
 use Rattle.machine.specs.SoundSheet.{HasVariable}
 use Rattle.machine.specs.Typing.{Context, underVariable, underCondition, underConditions, ContextFlowsTo, WellTyped}
-use Rattle.machine.specs.Memory.{Memory, update, write, raised}
+use Rattle.machine.specs.Memory.{Memory, update, write}
 use Rattle.machine.specs.Run.{Release, Outcome, done, spent, after, andThen, calculate, isZero, released, loop, run}
 use Rattle.machine.proofs.Orders.{chain}
 use Rattle.machine.proofs.Policies.{grows}

@@ -1,24 +1,24 @@
 -- The readers of the sample meet what the promises ask of readers.
-use mathlib.Core.Bool.{Bool, true, false, false≢true, cond, _||_}
+use mathlib.Core.Bool.{Bool, true, false, false≢true, cond}
 use mathlib.Core.List.{List, [], _∷_}
-use mathlib.Core.Logic.{_⊎_, inl, inr}
-use mathlib.Core.Path.{_≡_, refl, sym, ap, _∙_, subst, subst₂}
+use mathlib.Core.Logic.{inl, inr}
+use mathlib.Core.Path.{_≡_, refl, sym, subst, subst₂}
 use Prim.Native.Nat.{ℕ, zero, suc}
 use native.Mathlib.Omega.{arith}
 use lib.Dec.{eqb}
 use Rattle.std.specs.shelf.Signed.{wrapped}
 use Rattle.std.proofs.shelf.Tests.{or-cases, eqb-true, ltb-true}
 use Rattle.std.proofs.shelf.Ways.{tells}
-use Rattle.lattice.specs.Lattice.{Lattice, Lawful, Known, Below, SameOrder}
+use Rattle.lattice.specs.Lattice.{Lattice, Lawful, Known, Below}
 use Rattle.lattice.specs.Chain.{chain}
 use Rattle.records.specs.declared.refusal.Refusal.{Refusal}
 use Rattle.records.specs.Records.{bytes}
-use Rattle.records.specs.Rules.{Rule, Reading, accepted, refused, first}
+use Rattle.records.specs.Rules.{Rule, accepted, refused, first}
 use Rattle.policy.specs.Policy.{FlowsTo, KnownLevels, wipes, presentLevel}
 use Rattle.sheet.specs.Sheet.{Sheet, policyOf, levelOf}
 use Rattle.machine.specs.Command.{Command}
 use Rattle.machine.specs.SoundSheet.{SoundSheet, HasVariable, HasCondition}
-use Rattle.machine.specs.Typing.{top, WellTyped}
+use Rattle.machine.specs.Typing.{outermost, WellTyped}
 use Rattle.machine.specs.Promises.{SoundReaders}
 use Rattle.machine.specs.Examples.{transient}
 use Rattle.machine.specs.Sample.{sampleSheet, sampleProgram, sampleReaders, sheetRules, programRules, SampleStands}
@@ -67,7 +67,7 @@ module _ {C : Lattice} (W : Lawful C) (k0 : Known C 0) (k1 : Known C 1) (k3 : Kn
     conditions = conditions;
     variables = variables;
     permits = λ p d. absurd (omega (arith, ltb-true p 0 d));
-    permitted = λ p c d h. absurd (omega (arith, ltb-true p 0 d));
+    named = λ p c d h. absurd (omega (arith, ltb-true p 0 d));
     wipers = wipers;
   }
     where
@@ -87,7 +87,7 @@ module _ {C : Lattice} (W : Lawful C) (k0 : Known C 0) (k1 : Known C 1) (k3 : Kn
       wipers (suc (suc zero)) c d h = wiper c h
       wipers (suc (suc (suc v))) c d h = absurd (omega (arith, ltb-true (suc (suc (suc v))) 3 d))
 
-  well-typed : WellTyped C sampleSheet top sampleProgram
+  well-typed : WellTyped C sampleSheet outermost sampleProgram
   well-typed = ((refl, refl, refl, from-top C sampleSheet transient, flows, flows), tt)
     where
       flows : FlowsTo C transient transient
@@ -103,18 +103,19 @@ sound-readers = record {
       let z = passed-all (sheetRules C xs) sampleSheet sh e in
       let r = z .0 in
       let y = passed-all (programRules ys) sampleProgram c f in
-      subst₂ (λ (sh : Sheet) (c : Command). WellTyped C sh top c) (z .1) (y .1) (well-typed W (r .1 .0) (r .1 .1 .0) (r .1 .1 .1 .0) (r .1 .1 .1 .1 .0));
+      subst₂ (λ (sh : Sheet) (c : Command). WellTyped C sh outermost c) (z .1) (y .1) (well-typed W (r .1 .0) (r .1 .1 .0) (r .1 .1 .1 .0) (r .1 .1 .1 .1 .0));
 }
 
 pub sample-stands : SampleStands
 unfolding wrapped bytes
 sample-stands = record {
+  sound = sound-readers;
   kind = record {
+    readers = refl;
+    readers′ = refl;
     lawful = chain-lawful 3;
     lawful′ = chain-lawful 3;
     order = record { known = λ a. refl; below = λ a b h k. refl };
-    sound = sound-readers;
-    readers = refl;
     image = λ values. refl;
   };
   answers = refl;

@@ -2,28 +2,27 @@
 use mathlib.Core.Bool.{Bool, true, false, true≢false, false≢true, cond, not, _&&_}
 use mathlib.Core.List.{List, [], _∷_, _++_}
 use mathlib.Core.Option.{Option, none, some}
-use mathlib.Core.Path.{_≡_, refl, sym, ap, _∙_, subst}
-use mathlib.Core.Logic.{_⊎_, inl, inr}
-use Prim.Native.Nat.{ℕ, zero, suc, _-_, _<_}
-use native.Mathlib.Nat.{not-suc-le-zero}
-use native.Mathlib.Omega.{arith}
-use Rattle.std.proofs.shelf.Tests.{cases-eq, and-parts, not-false, ltb-true}
+use mathlib.Core.Path.{_≡_, refl, ap, _∙_, subst}
+use Prim.Native.Nat.{ℕ, _-_}
+use Rattle.std.proofs.shelf.Tests.{not-false, ltb-true}
 use lib.IntN.{ℤ, pos}
 use lib.ListN.{length}
-use Rattle.lattice.specs.Lattice.{Lattice, Lawful, Known}
+use Rattle.lattice.specs.Lattice.{Lawful, Known}
 use Rattle.records.specs.Rules.{Rule, Reading, accepted, refused}
-use Rattle.sheet.specs.Sheet.{Sheet, levelOf, declaredVariable, declaredCondition}
+use Rattle.sheet.specs.Sheet.{Sheet, declaredVariable, declaredCondition}
 use Rattle.machine.specs.Command.{Command}
-use Rattle.machine.specs.Typing.{top, WellTyped}
-use Rattle.machine.specs.Memory.{Memory, cleared, held, every, firsts}
+use Rattle.machine.specs.Typing.{outermost, WellTyped}
+use Rattle.machine.specs.Memory.{Memory, cleared, held, every}
 use Rattle.machine.specs.Run.{Outcome, done, spent, run}
 use Rattle.machine.specs.Calls.{Call, Answer}
 use Rattle.machine.specs.Machine.{System, State, bare, ready, Step, answered, asked, isVariable, mayBeFed, isLevel, mayKnow, isLongEnough, readableAt, asks, begun, loaded, ended, passed, rulesOf, effect, firstStep, step}
-use Rattle.machine.specs.Observation.{Observer, hiddenVariable, hiddenCondition, hidden, releasedAt}
+use Rattle.machine.specs.Observation.{Observer, hidden, releasedAt}
 use Rattle.machine.specs.Promises.{SoundReaders}
 use Rattle.machine.proofs.Asking.{AllHold, asked-keeps, asked-both}
-use Rattle.machine.proofs.Memories.{View, Fair, sees, seesCondition, releases, visible, visible-declared, Agree, agree-refl, agree-sym, agree-trans, memory-ext, wiped-same, write-visible, write-hidden, raised-both, raised-hidden, lowered-both, lowered-hidden}
+use Rattle.machine.proofs.Memories.{View, Fair, sees, seesCondition, releases, visible-declared, Agree, agree-refl, agree-sym, agree-trans, wiped-same, write-visible, write-hidden, raised-both, raised-hidden, lowered-both, lowered-hidden}
 use Rattle.machine.proofs.Runs.{Track, track}
+use Rattle.machine.proofs.Every.{all-of}
+use Rattle.machine.proofs.Values.{held-same}
 
 -- a lawful lattice, sound readers and a known level
 pub record Setting (S : System) (o : Observer) : Type 0 where
@@ -41,7 +40,7 @@ module _ (S : System) (o : Observer) where
 
   abbrev pub WellTypedProgram : Sheet → Option Command → Type 0
   WellTypedProgram sh none = Unit {0}
-  WellTypedProgram sh (some c) = WellTyped (S .lattice) sh top c
+  WellTypedProgram sh (some c) = WellTyped (S .lattice) sh outermost c
 
   pub data Twin : State → State → Type 0 where
     bares : Twin bare bare
@@ -92,21 +91,6 @@ unseen true true h = absurd (false≢true h)
 unseen true false h = (refl, refl)
 unseen false o h = absurd (false≢true h)
 
-pub all-of : (n : ℕ) (p : ℕ → Bool) → every n p ≡ true → (v : ℕ) → v < n → p v ≡ true
-all-of zero p h v k = absurd (not-suc-le-zero k)
-all-of (suc n) p h v k = elim (cases-eq v n) [
-  | inl e ↦ ap p e ∙ and-parts (p n) (every n p) h .0
-  | inr e ↦ all-of n p (and-parts (p n) (every n p) h .1) v (omega arith)
-]
-
-firsts-same : (n : ℕ) (f g : ℕ → ℤ) → ((k : ℕ) → f k ≡ g k) → firsts n f ≡ firsts n g
-firsts-same zero f g e = refl
-firsts-same (suc n) f g e = ap (λ x. x ∷ firsts n (λ k. f (suc k))) (e 0) ∙ ap (λ xs. g 0 ∷ xs) (firsts-same n (λ k. f (suc k)) (λ k. g (suc k)) (λ k. e (suc k)))
-
-held-same : (m m′ : Memory) → ((v : ℕ) → m .values v ≡ m′ .values v) → held m ≡ held m′
-unfolding held
-held-same m m′ e = firsts-same 64 (m .values) (m′ .values) e
-
 module _ {S : System} {o : Observer} (G : Setting S o) where
   fair : {sh : Sheet} → Accepts S sh → Fair (viewOf S o sh)
   fair {sh} A = record { lawful = G .lawful; level = G .level; sheet = G .readers .sheets (S .lattice) (G .lawful) (A .bytes) sh (A .read) }
@@ -144,7 +128,7 @@ module _ {S : System} {o : Observer} (G : Setting S o) where
   follows-pass : {sh : Sheet} (A : Accepts S sh) (p : Option Command) → WellTypedProgram S o sh p → (m m′ : Memory) → Agree (viewOf S o sh) m m′ → (n : ℕ)
       → Follows S o sh (passed sh p m n) (passed sh p m′ n)
   follows-pass {sh} A none w m m′ a n = follows-answered S o sh (readies {p = none} A w a) refl
-  follows-pass {sh} A (some c) w m m′ a n = follows-ended S o sh c n (run sh c n m) (run sh c n m′) A w (track (fair A) c top w n m m′ a)
+  follows-pass {sh} A (some c) w m m′ a n = follows-ended S o sh c n (run sh c n m) (run sh c n m′) A w (track (fair A) c outermost w n m m′ a)
 
   module _ {sh : Sheet} (A : Accepts S sh) (p : Option Command) (w : WellTypedProgram S o sh p) where
     -- a call that remains does the same

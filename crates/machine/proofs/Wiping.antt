@@ -8,13 +8,13 @@ use lib.IntN.{ℤ, pos}
 use lib.Dec.{eqb}
 use Rattle.std.proofs.shelf.Tests.{eqb-true}
 use Rattle.records.specs.Rules.{Reading, accepted, refused}
-use Rattle.policy.specs.Policy.{Set, Policy, wipes, wipedBy}
+use Rattle.policy.specs.Policy.{wipes, wipedBy}
 use Rattle.sheet.specs.Sheet.{Sheet, policyOf}
 use Rattle.machine.specs.Command.{Command, skip, _⨾_, set, combine, release, raise, ifVariable, ifCondition, while}
 use Rattle.machine.specs.Memory.{Memory, update, write, raised, lowered}
 use Rattle.machine.specs.Run.{Release, Outcome, done, spent, after, andThen, calculate, isZero, released, loop, run}
 use Rattle.machine.specs.Calls.{Call}
-use Rattle.machine.specs.Machine.{System, State, bare, ready, Step, begun, loaded, ended, passed, rulesOf, effect, firstStep, step, final}
+use Rattle.machine.specs.Machine.{System, State, bare, ready, begun, loaded, ended, passed, rulesOf, effect, firstStep, step, final}
 use Rattle.machine.specs.Promises.{Wiped, WipedWhileUp}
 use Rattle.machine.proofs.Asking.{asked-keeps}
 use Rattle.machine.proofs.Policies.{wiped-more, wiped-alike, wiped-one}
@@ -140,5 +140,5 @@ clean-wiped : (st : State) → CleanState st → Wiped st
 clean-wiped bare h = tt
 clean-wiped (ready sh p m) h = λ v c w u. h v (wiped-one c (m .up) (policyOf sh v) w u)
 
-pub wiped-while-up : (S : System) → WipedWhileUp S
+pub wiped-while-up : WipedWhileUp
 wiped-while-up S cs = clean-wiped (final S bare cs) (clean-final S bare cs tt)

@@ -9,3 +9,4 @@ pub mod Observation
 pub mod Promises
 pub mod Examples
 pub mod Sample
+pub mod Needed

@@ -25,13 +25,13 @@ abbrev pub isZero : ℤ → Bool
 isZero (pos n) = eqb n 0
 isZero (negsuc n) = false
 
--- are all conditions of the mask up?
-unfoldable pub allUp : ℕ → Set → Bool
-allUp mask up = every 32 (λ c. not (bit c mask) || up c)
+-- a permit releases while all conditions of its mask, of 32 bits, are up
+unfoldable pub permitted : ℕ → Set → Bool
+permitted mask up = every 32 (λ c. not (bit c mask) || up c)
 
 -- what a release writes
 abbrev pub released : Sheet → ℕ → ℕ → Memory → ℤ
-released sh b p m = cond (allUp (permitAt sh p .conditions) (m .up)) (m .values b) (pos 0)
+released sh b p m = cond (permitted (permitAt sh p .conditions) (m .up)) (m .values b) (pos 0)
 
 -- a value that a permit stored, and where
 pub record Release : Type 0 where

@@ -3,7 +3,7 @@ use mathlib.Core.Bool.{Bool, true, false, _&&_}
 use mathlib.Core.List.{List, [], _∷_, map}
 use mathlib.Core.Path.{_≡_}
 use Prim.Native.Nat.{ℕ, _%_}
-use lib.IntN.{ℤ, pos}
+use lib.IntN.{pos}
 use lib.Dec.{eqb}
 use mir.Syntax.{w32}
 use mir.Val.{ofZ}
@@ -18,7 +18,7 @@ use Rattle.sheet.specs.Sheet.{Sheet}
 use Rattle.machine.specs.Command.{Command, skip, _⨾_, combine, plus}
 use Rattle.machine.specs.Calls.{Call, Answer}
 use Rattle.machine.specs.Machine.{Readers, System, bare, history}
-use Rattle.machine.specs.Promises.{SameKind}
+use Rattle.machine.specs.Promises.{SoundReaders, SameKind}
 use Rattle.machine.specs.Examples.{transient}
 
 abbrev pub sampleSheet : Sheet
@@ -77,5 +77,6 @@ sessionAnswers =
     ∷ Answer.number (pos 0) ∷ Answer.number (pos 0) ∷ Answer.refused (refusal 20 0 0) ∷ Answer.number (pos 0) ∷ Answer.number (pos 0) ∷ Answer.refused (refusal 25 0 0) ∷ []
 
 pub record SampleStands : Type 0 where
-  pub kind : SameKind sample sample
+  pub sound : SoundReaders sampleReaders
+  pub kind : SameKind sampleReaders sample sample
   pub answers : map (λ e. e .answer) (history sample bare session) ≡ sessionAnswers

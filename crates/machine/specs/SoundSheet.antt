@@ -21,5 +21,5 @@ pub record SoundSheet (C : Lattice) (sh : Sheet) : Type 0 where
   pub conditions : (c : ℕ) → HasCondition sh c → Known C (levelOf sh c)
   pub variables : (v : ℕ) → HasVariable sh v → KnownLevels C (policyOf sh v)
   pub permits : (p : ℕ) → HasPermit sh p → KnownLevels C (permitAt sh p .from) × KnownLevels C (permitAt sh p .to)
-  pub permitted : (p c : ℕ) → HasPermit sh p → bit c (permitAt sh p .conditions) ≡ true → HasCondition sh c
+  pub named : (p c : ℕ) → HasPermit sh p → bit c (permitAt sh p .conditions) ≡ true → HasCondition sh c
   pub wipers : (v c : ℕ) → HasVariable sh v → wipes c (policyOf sh v) ≡ true → Below C (levelOf sh c) (presentLevel C (policyOf sh v))

@@ -1,6 +1,6 @@
 -- Which programs a sheet accepts. All that reaches a target flows to it: what is read, and the program-counter context,
 -- that is, what decides whether the command is run at all. And what a command names is declared.
-use mathlib.Core.Bool.{Bool, true, _||_}
+use mathlib.Core.Bool.{true, _||_}
 use mathlib.Core.Path.{_≡_}
 use Prim.Native.Nat.{ℕ}
 use Rattle.lattice.specs.Lattice.{Lattice, Below}
@@ -15,8 +15,8 @@ pub record Context : Type 0 where
   pub variables : Set
   pub conditions : Set
 
-abbrev pub top : Context
-top = record { variables = none; conditions = none }
+abbrev pub outermost : Context
+outermost = record { variables = none; conditions = none }
 
 abbrev pub underVariable : ℕ → Context → Context
 underVariable v pc = record { variables = add v (pc .variables); conditions = pc .conditions }

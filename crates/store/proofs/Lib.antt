@@ -5,3 +5,5 @@ pub mod Positions
 pub mod UsedEntries
 pub mod NormalForm
 pub mod Puts
+pub mod Ascending
+pub mod Examples

@@ -1,16 +1,18 @@
 -- The entries of 64 values: they give the values back, and a put changes them by one entry. Assumes nothing.
-use mathlib.Core.Bool.{Bool, true, false}
-use mathlib.Core.Path.{_≡_, refl, sym, ap, subst, _∙_}
-use mathlib.Core.List.{List, [], _∷_, _++_}
-use Prim.Native.Nat.{ℕ, zero, suc, _+_, _-_, _≤_, _<_}
+use mathlib.Core.Bool.{true, false}
+use mathlib.Core.Path.{_≡_, sym, ap, _∙_}
+use mathlib.Core.List.{List, _∷_, _++_}
+use Prim.Native.Nat.{ℕ, suc, _+_, _-_, _≤_, _<_}
 use native.Mathlib.Omega.{arith}
 use lib.IntN.{ℤ, pos}
 use lib.ListN.{length, getD, set, take, drop, replicate}
 use Rattle.std.specs.Holes.{between}
 use Rattle.std.proofs.shelf.Counted.{length-map-counting, getD-map-counting}
-use Rattle.std.proofs.shelf.Lists.{append-assoc, length-append, length-drop, length-replicate, length-set, length-take-le, ext-getD, getD-at, getD-append-right, set-getD, set-split}
+use Rattle.std.proofs.shelf.Lists.{append-assoc, length-append, length-drop, length-replicate, length-set, length-take-le, ext-getD, getD-at, getD-append-right, set-getD, set-split, take-at, drop-at}
 use Rattle.store.specs.declared.entry.Entry.{Entry}
-use Rattle.store.specs.Entries.{unused, isZero, entryOf, usedFrom, entriesOf, valueAt, valuesOf, before}
+use Rattle.store.specs.Entries.{unused, isZero, entryOf, usedFrom, entriesOf, valueAt, valuesOf, ascendFrom}
+use Rattle.store.specs.Positions.{before}
+use Rattle.store.proofs.Ascending.{ascend-used}
 use Rattle.store.proofs.Moves.{inserted-part, removed-part, set-part}
 use Rattle.store.proofs.UsedEntries.{zero-is, entry-none, entry-one, used-append, used-short, value-at, before-lower, before-upper, head-above}
 
@@ -39,21 +41,22 @@ values-entries vs n =
 -- Entries and a count that are kept for the values ws.
 pub record Kept (es : List Entry) (used : ℕ) (ws : List ℤ) : Type 0 where
   pub full : length es ≡ 64
-  pub normal : es ≡ entriesOf (valuesOf es)
-  pub counted : used ≡ length (usedFrom 0 (valuesOf es))
+  pub room : used ≤ 64
+  pub ordered : ascendFrom 0 (take used es) ≡ true
+  pub blank : drop used es ≡ replicate (64 - used) unused
   pub values : valuesOf es ≡ ws
 
 pub kept : (es : List Entry) (used : ℕ) (ws : List ℤ) → length ws ≡ 64 → es ≡ entriesOf ws → used ≡ length (usedFrom 0 ws) → Kept es used ws
-kept es used ws n e u =
-    let v : valuesOf es ≡ ws = ap valuesOf e ∙ values-entries ws n in
-    record {
-      full = ap length e ∙ length-entries ws n;
-      normal = e ∙ ap entriesOf (sym v);
-      counted = u ∙ ap (λ l. length (usedFrom 0 l)) (sym v);
-      values = v;
-    }
+unfolding entriesOf
+kept es used ws n e u = record {
+  full = ap length e ∙ length-entries ws n;
+  room = omega (arith, used-short 0 ws);
+  ordered = ap (ascendFrom 0) (ap (take used) e ∙ take-at (usedFrom 0 ws) _ used (sym u)) ∙ ascend-used 0 ws (omega arith);
+  blank = ap (drop used) e ∙ drop-at (usedFrom 0 ws) _ used (sym u) ∙ ap (λ m. replicate (64 - m) unused) (sym u);
+  values = ap valuesOf e ∙ values-entries ws n;
+}
 
--- The values around a place: entries below it, and entries above.
+-- The values around a place: entries below it, and entries above. A put changes what stands between.
 module _ (vs : List ℤ) (n : length vs ≡ 64) (p : ℕ) (h : p < 64) where
   abbrev lower : List Entry
   lower = usedFrom 0 (take p vs)
@@ -95,48 +98,40 @@ module _ (vs : List ℤ) (n : length vs ≡ 64) (p : ℕ) (h : p < 64) where
       let k : 64 - length (usedFrom 0 (set vs p v)) ≡ 63 - both = omega (arith, count-held v z) in
       rw k (ap (λ l. l ++ replicate (63 - both) unused) (used-set v ∙ ap (λ l. lower ++ (l ++ upper)) (entry-one p v z)) ∙ append-assoc lower _ _)
 
--- Entries and their count that are kept in the normal form of the values that they give: what a put does to them.
-module _ (es : List Entry) (used : ℕ) (normal : es ≡ entriesOf (valuesOf es)) (counted : used ≡ length (usedFrom 0 (valuesOf es))) where
-  abbrev vs : List ℤ
-  vs = valuesOf es
-
-  pub used-most : used ≤ 64
-  used-most = omega (arith, used-short 0 vs, length-values es)
-
-  module _ (p : ℕ) (h : p < 64) (at : ℕ) (found : at ≡ before p es) where
+  -- Entries and a count that are in this form already, and the place's position among them.
+  module _ (es : List Entry) (normal : es ≡ entriesOf vs) (used : ℕ) (counted : used ≡ length (usedFrom 0 vs)) (at : ℕ) (found : at ≡ before p es) where
     -- what stands at the place now
     abbrev old : ℤ
     old = getD vs p (pos 0)
 
-    n : length vs ≡ 64
-    n = length-values es
-
     same : set vs p old ≡ vs
     same = set-getD vs p (pos 0)
 
-    at-is : at ≡ length (lower vs n p h)
+    at-is : at ≡ length lower
     unfolding usedFrom entriesOf
     at-is =
         let k = 64 - length (usedFrom 0 vs) in
         let r = replicate k unused in
         let above = usedFrom p (old ∷ drop (suc p) vs) in
-        let e : es ≡ lower vs n p h ++ (above ++ r) =
-          normal ∙ ap (λ l. l ++ r) (ap (usedFrom 0) (sym same) ∙ used-set vs n p h old) ∙ append-assoc (lower vs n p h) above r in
-        found ∙ ap (before p) e ∙ before-lower 0 (take p vs) (above ++ r) p (omega (arith, length-take-le p vs (omega (arith, n))))
-        ∙ ap (λ m. length (lower vs n p h) + m) (before-upper p (old ∷ drop (suc p) vs) k p h (omega arith)) ∙ omega arith
+        let e : es ≡ lower ++ (above ++ r) =
+        normal ∙ ap (λ l. l ++ r) (ap (usedFrom 0) (sym same) ∙ used-set old) ∙ append-assoc lower above r in
+        found ∙ ap (before p) e ∙ before-lower 0 (take p vs) (above ++ r) p (omega (arith, length-take-le p vs (omega arith)))
+        ∙ ap (λ m. length lower + m) (before-upper p (old ∷ drop (suc p) vs) k p h (omega arith)) ∙ omega arith
 
-    free : isZero old ≡ true → (used ≡ both vs n p h) × (es ≡ lower vs n p h ++ (upper vs n p h ++ replicate (63 - both vs n p h + 1) unused))
-    free z =
-        (counted ∙ ap (λ l. length (usedFrom 0 l)) (sym same) ∙ count-free vs n p h old z,
-        normal ∙ ap entriesOf (sym same) ∙ entries-free vs n p h old z)
+    free : isZero old ≡ true → (used ≡ both) × (es ≡ lower ++ (upper ++ replicate (63 - both + 1) unused))
+    free z = (
+      counted ∙ ap (λ l. length (usedFrom 0 l)) (sym same) ∙ count-free old z,
+      normal ∙ ap entriesOf (sym same) ∙ entries-free old z,
+    )
 
-    held : isZero old ≡ false → (used ≡ both vs n p h + 1) × (es ≡ lower vs n p h ++ (record { place = p; value = old } ∷ (upper vs n p h ++ replicate (63 - both vs n p h) unused)))
-    held z =
-        (counted ∙ ap (λ l. length (usedFrom 0 l)) (sym same) ∙ count-held vs n p h old z,
-        normal ∙ ap entriesOf (sym same) ∙ entries-held vs n p h old z)
+    held : isZero old ≡ false → (used ≡ both + 1) × (es ≡ lower ++ (record { place = p; value = old } ∷ (upper ++ replicate (63 - both) unused)))
+    held z = (
+      counted ∙ ap (λ l. length (usedFrom 0 l)) (sym same) ∙ count-held old z,
+      normal ∙ ap entriesOf (sym same) ∙ entries-held old z,
+    )
 
     pub room-free : isZero old ≡ true → (at ≤ used) × (used < 64)
-    room-free z = let u = free z .0 in let f = few vs n p h in let q = at-is in (omega arith, omega arith)
+    room-free z = let u = free z .0 in let f = few in let q = at-is in (omega arith, omega arith)
 
     pub room-held : isZero old ≡ false → at < used
     room-held z = let u = held z .0 in let q = at-is in omega arith
@@ -145,14 +140,14 @@ module _ (es : List Entry) (used : ℕ) (normal : es ≡ entriesOf (valuesOf es)
     place-free z k d e =
         let u = free z .0 in
         let q = at-is in
-        let r = replicate (63 - both vs n p h + 1) unused in
-        let g : getD es at d ≡ getD (upper vs n p h ++ r) 0 d =
-          ap (λ l. getD l at d) (free z .1) ∙ getD-append-right (lower vs n p h) (upper vs n p h ++ r) at at d (sym q) (omega arith)
-          ∙ ap (λ m. getD (upper vs n p h ++ r) m d) (omega arith) in
+        let r = replicate (63 - both + 1) unused in
+        let g : getD es at d ≡ getD (upper ++ r) 0 d =
+        ap (λ l. getD l at d) (free z .1) ∙ getD-append-right lower (upper ++ r) at at d (sym q) (omega arith)
+        ∙ ap (λ m. getD (upper ++ r) m d) (omega arith) in
         omega (arith, ap (λ (x : Entry). x .place) g, head-above (p + 1) (drop (suc p) vs) r d (omega arith))
 
     pub entry-held : isZero old ≡ false → (d : Entry) → getD es at d ≡ record { place = p; value = old }
-    entry-held z d = ap (λ l. getD l at d) (held z .1) ∙ getD-at (lower vs n p h) (record { place = p; value = old }) _ d at (sym at-is)
+    entry-held z d = ap (λ l. getD l at d) (held z .1) ∙ getD-at lower (record { place = p; value = old }) _ d at (sym at-is)
 
     module _ (v : ℤ) where
       pub put-none : isZero old ≡ true → isZero v ≡ true → set vs p v ≡ vs
@@ -164,9 +159,9 @@ module _ (es : List Entry) (used : ℕ) (normal : es ≡ entriesOf (valuesOf es)
           let u = free z .0 in
           let q = at-is in
           kept _ _ (set vs p v) (length-set vs p v ∙ n)
-          (inserted-part (lower vs n p h) (upper vs n p h) (63 - both vs n p h) at used unused (sym q) (record { place = p; value = v }) (omega arith) es (free z .1)
-          ∙ sym (entries-held vs n p h v y))
-          (omega (arith, count-held vs n p h v y))
+          (inserted-part lower upper (63 - both) at used unused (sym q) (record { place = p; value = v }) (omega arith) es (free z .1)
+          ∙ sym (entries-held v y))
+          (omega (arith, count-held v y))
 
       pub put-remove : isZero old ≡ false → isZero v ≡ true
           → Kept (take at es ++ (between (at + 1) used es ++ (unused ∷ drop used es))) (used - 1) (set vs p v)
@@ -174,13 +169,13 @@ module _ (es : List Entry) (used : ℕ) (normal : es ≡ entriesOf (valuesOf es)
           let u = held z .0 in
           let q = at-is in
           kept _ _ (set vs p v) (length-set vs p v ∙ n)
-          (removed-part (lower vs n p h) (upper vs n p h) (63 - both vs n p h) at used unused (sym q) (record { place = p; value = old }) (omega arith) es (held z .1)
-          ∙ sym (entries-free vs n p h v y))
-          (omega (arith, count-free vs n p h v y))
+          (removed-part lower upper (63 - both) at used unused (sym q) (record { place = p; value = old }) (omega arith) es (held z .1)
+          ∙ sym (entries-free v y))
+          (omega (arith, count-free v y))
 
       pub put-over : isZero old ≡ false → isZero v ≡ false → Kept (set es at record { place = p; value = v }) used (set vs p v)
       put-over z y =
           kept _ _ (set vs p v) (length-set vs p v ∙ n)
-          (set-part (lower vs n p h) (upper vs n p h) (63 - both vs n p h) at used unused (sym at-is) (record { place = p; value = old }) (record { place = p; value = v }) es (held z .1)
-          ∙ sym (entries-held vs n p h v y))
-          (held z .0 ∙ sym (count-held vs n p h v y))
+          (set-part lower upper (63 - both) at used unused (sym at-is) (record { place = p; value = old }) (record { place = p; value = v }) es (held z .1)
+          ∙ sym (entries-held v y))
+          (held z .0 ∙ sym (count-held v y))

@@ -1,13 +1,12 @@
 -- Counting the entries before a place, one entry at a time. Assumes nothing.
-use mathlib.Core.Path.{_≡_, refl, sym, ap, _∙_}
-use mathlib.Core.List.{List, [], _∷_}
+use mathlib.Core.Path.{_≡_, refl}
+use mathlib.Core.List.{List}
 use Prim.Native.Nat.{ℕ, suc, _+_, _≤_, _<_}
-use native.Mathlib.Omega.{arith}
 use lib.ListN.{length, drop, getD}
 use Rattle.std.proofs.shelf.Lists.{drop-more, drop-all}
 use Rattle.std.proofs.shelf.Tests.{lt-ltb, le-ltb}
 use Rattle.store.specs.declared.entry.Entry.{Entry}
-use Rattle.store.specs.Entries.{before}
+use Rattle.store.specs.Positions.{before}
 
 module _ (es : List Entry) (p i : ℕ) where
   pub before-stop : (d : Entry) → i < length es → p ≤ getD es i d .place → before p (drop i es) ≡ 0

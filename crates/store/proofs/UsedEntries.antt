@@ -1,17 +1,17 @@
 -- The used entries of values: how many there are, what they give back, and where a place stands among them. Assumes nothing.
-use mathlib.Core.Bool.{Bool, true, false, cond}
+use mathlib.Core.Bool.{true, false, cond}
 use mathlib.Core.Logic.{inl, inr}
 use mathlib.Core.Path.{_≡_, refl, sym, ap, subst, _∙_}
 use mathlib.Core.List.{List, [], _∷_, _++_}
-use Prim.Native.Nat.{ℕ, zero, suc, _+_, _-_, _≤_, _<_}
+use Prim.Native.Nat.{ℕ, zero, suc, _+_, _≤_, _<_}
 use native.Mathlib.Omega.{arith}
-use lib.Dec.{eqb, ltb}
 use lib.IntN.{ℤ, pos, negsuc}
 use lib.ListN.{length, getD, replicate}
-use Rattle.std.proofs.shelf.Lists.{append-assoc, length-append, getD-past}
+use Rattle.std.proofs.shelf.Lists.{append-assoc, length-append}
 use Rattle.std.proofs.shelf.Tests.{lt-ltb, le-ltb, eq-eqb, ne-eqb, eqb-true, cases-bool, false≢true, cond-true, cond-false}
 use Rattle.store.specs.declared.entry.Entry.{Entry}
-use Rattle.store.specs.Entries.{unused, isZero, entryOf, usedFrom, valueAt, before}
+use Rattle.store.specs.Entries.{unused, isZero, entryOf, usedFrom, valueAt}
+use Rattle.store.specs.Positions.{before}
 
 pub zero-is : (v : ℤ) → isZero v ≡ true → v ≡ pos 0
 zero-is (pos n) h = ap pos (eqb-true n 0 h)
@@ -45,7 +45,7 @@ used-short q [] = omega arith
 used-short q (v ∷ vs) = omega (arith, length-append (entryOf q v) (usedFrom (q + 1) vs), entry-short q v, used-short (q + 1) vs)
 
 -- What the entries give back.
-value-none : (n p : ℕ) → p < 64 → valueAt (replicate n unused) p ≡ pos 0
+pub value-none : (n p : ℕ) → p < 64 → valueAt (replicate n unused) p ≡ pos 0
 unfolding valueAt
 value-none zero p h = refl
 value-none (suc n) p h = rw (ne-eqb 255 p (λ e. omega arith)) (value-none n p h)
@@ -106,6 +106,7 @@ head-above q [] es d h = absurd (omega arith)
 head-above q (v ∷ vs) es d h =
     let P : List Entry → Type 0 = λ l. 0 < length l → q ≤ getD (l ++ es) 0 d .place in
     let w = usedFrom (q + 1) vs in
-    elim (cases-bool (isZero v))
-    [ inl z ↦ subst P (sym (ap (λ l. l ++ w) (entry-none q v z))) (λ k. omega (arith, head-above (q + 1) vs es d k)) h
-    | inr z ↦ subst P (sym (ap (λ l. l ++ w) (entry-one q v z))) (λ k. omega arith) h ]
+    elim (cases-bool (isZero v)) [
+      | inl z ↦ subst P (sym (ap (λ l. l ++ w) (entry-none q v z))) (λ k. omega (arith, head-above (q + 1) vs es d k)) h
+      | inr z ↦ subst P (sym (ap (λ l. l ++ w) (entry-one q v z))) (λ k. omega arith) h
+    ]

@@ -1,13 +1,11 @@
 -- The entries of a sparse store: each value that is not zero, with its place, in the order of the places; then unused ones.
-use mathlib.Core.Bool.{Bool, false, cond}
+use mathlib.Core.Bool.{Bool, true, false, not, cond, _&&_}
 use mathlib.Core.List.{List, [], _∷_, _++_, map}
-use Prim.Native.Nat.{ℕ, suc, _+_, _-_}
-use lib.Dec.{eqb, ltb}
+use Prim.Native.Nat.{ℕ, _+_, _-_}
+use lib.Dec.{eqb, leb, ltb}
 use lib.IntN.{ℤ, pos, negsuc}
-use lib.ListN.{length, getD, replicate}
+use lib.ListN.{length, replicate}
 use Rattle.std.specs.Iters.{counting}
-use Rattle.std.specs.declared.result.Result.{Result}
-use Rattle.std.specs.declared.result.Result.the-variants.{Ok, Err}
 use Rattle.store.specs.declared.entry.Entry.{Entry}
 
 abbrev pub unused : Entry
@@ -37,11 +35,7 @@ valueAt (e ∷ es) p = cond (eqb (e .place) p) (e .value) (valueAt es p)
 unfoldable pub valuesOf : List Entry → List ℤ
 valuesOf es = map (valueAt es) (counting 0 64)
 
--- How many entries stand before the first whose place is not below p.
-unfoldable pub before : ℕ → List Entry → ℕ
-before p [] = 0
-before p (e ∷ es) = cond (ltb (e .place) p) (suc (before p es)) 0
-
--- Where the entry of a place stands, or where it would belong.
-abbrev pub placeIn : List Entry → ℕ → Result ℕ ℕ
-placeIn es p = cond (isZero (getD (valuesOf es) p (pos 0))) (Err (before p es)) (Ok (before p es))
+-- Entries ascend by place, from p to at most 63, and none holds zero.
+unfoldable pub ascendFrom : ℕ → List Entry → Bool
+ascendFrom p [] = true
+ascendFrom p (e ∷ es) = leb p (e .place) && (ltb (e .place) 64 && (not (isZero (e .value)) && ascendFrom (e .place + 1) es))

@@ -1,2 +1,4 @@
-pub mod Images
 pub mod Entries
+pub mod Images
+pub mod Positions
+pub mod Examples

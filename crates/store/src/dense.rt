@@ -39,6 +39,10 @@ pub impl Store for DenseStore as StoreDense {
     }
 
     fn image_byte(&self, at: usize) -> u8 {
-        if at / 4 < PLACES { self.cells[at / 4].to_be_bytes()[at % 4] } else { 0 }
+        if at / 4 < PLACES {
+            self.cells[at / 4].to_be_bytes()[at % 4]
+        } else {
+            0
+        }
     }
 }

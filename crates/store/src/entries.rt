@@ -1,10 +1,11 @@
 // Lists of entries that ascend by place: where a place stands or belongs, and how entries go in and out.
-ghost use lib.ListN.{length, take, drop, set};
+ghost use lib.ListN.{length, take, drop};
 ghost use mathlib.Core.List.{_++_, _∷_};
 ghost use mathlib.Core.Path.{_≡_};
-ghost use Prim.Native.Nat.{ℕ, _+_, _-_, _<_, _≤_};
+ghost use Prim.Native.Nat.{_+_, _-_, _<_, _≤_};
 ghost use Rattle.std.specs.Holes.{between};
-ghost use Rattle.store.specs.Entries.{unused, before};
+ghost use Rattle.store.specs.Entries.{unused};
+ghost use Rattle.store.specs.Positions.{before};
 use crate::entry::Entry;
 
 // An entry that keeps no value.

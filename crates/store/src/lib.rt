@@ -8,7 +8,7 @@ pub use dense::DenseStore;
 pub use dense::StoreDense;
 pub use sparse::SparseStore;
 pub use sparse::StoreSparse;
-
+pub use sparse::sparse_example;
 ghost use lib.Dec.{ltb};
 ghost use lib.IntN.{ℤ, pos};
 ghost use lib.ListN.{length, getD, set, replicate};

@@ -1,5 +1,4 @@
 use mathlib.Core.Path.{ap, _∙_}
-use native.Mathlib.Omega.{arith}
 use lib.ListN.{set}
 use Rattle.store.proofs.Moves.{moved-up}
 use Rattle.store.proofs.entries.insert.Needs as need

@@ -1,5 +1,4 @@
 use native.Mathlib.Omega.{arith}
-use lib.ListN.{length}
 use Rattle.store.proofs.Positions.{before-stop, before-more, before-end}
 use Rattle.store.proofs.entries.position.Needs as need
 

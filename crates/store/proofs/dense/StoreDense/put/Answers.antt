@@ -1,5 +1,4 @@
-use mathlib.Core.Path.{refl, sym}
-use Prim.Native.Nat.{_≤_}
+use mathlib.Core.Path.{sym}
 use native.Mathlib.Omega.{arith}
 use borrow.Author.Needs.{needs}
 use Rattle.std.proofs.shelf.Lists.{set-past}

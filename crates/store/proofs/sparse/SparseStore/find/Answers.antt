@@ -1,16 +1,7 @@
-use mathlib.Core.Path.{_≡_, refl, sym, ap, _∙_}
 use native.Mathlib.Omega.{arith}
-use borrow.Author.Needs.{needs}
-use Rattle.store.proofs.NormalForm.{used-most}
 use Rattle.store.proofs.Puts.{finds, misses}
 use Rattle.store.proofs.sparse.SparseStore.find.Needs as need
 use Rattle.store.proofs.sparse.SparseStore.find.Needs.{else-at-self·by·then-at-self·else-self-at, else-at-self·by·else-at-self}
-
-pub offset-self-at : need.offset-self-at
-offset-self-at c = let s = c .args .self .now in let m = used-most (s .entries) (s .used) (s .normal) (s .counted) in search needs
-
-pub index-self-at : need.index-self-at
-index-self-at c = let s = c .args .self .now in omega (arith, used-most (s .entries) (s .used) (s .normal) (s .counted))
 
 pub returns-then-self-at : need.returns-then-self-at
 returns-then-self-at c =
@@ -19,6 +10,7 @@ returns-then-self-at c =
 pub returns-else-at-self : need.returns-else-at-self
 returns-else-at-self c =
     misses (c .args .self .now) (c .args .place) (c .pre) (c .position-at .result) (c .position-at .ensures)
-    (λ u e. elim (c .else-at-self .came)
-    [ else-at-self·by·then-at-self·else-self-at w ↦ w .if-self-at .left e
-    | else-at-self·by·else-at-self w ↦ omega (arith, w .if-at-self .left) ])
+    (λ u e. elim (c .else-at-self .came) [
+      | else-at-self·by·then-at-self·else-self-at w ↦ w .if-self-at .left e
+      | else-at-self·by·else-at-self w ↦ omega (arith, w .if-at-self .left)
+    ])

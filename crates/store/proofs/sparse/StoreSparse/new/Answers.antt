@@ -10,7 +10,7 @@ unfolding usedFrom entriesOf
 zeros = kept (replicate 64 unused) 0 (replicate 64 (pos 0)) refl refl refl
 
 pub ghost-result : need.ghost-result
-ghost-result c = (zeros .full, (zeros .normal, (zeros .counted, tt)))
+ghost-result c = (zeros .full, (zeros .room, (zeros .ordered, (zeros .blank, tt))))
 
 pub returns : need.returns
 returns c = zeros .values

@@ -1,5 +1,5 @@
-use mathlib.Core.Path.{_≡_, refl, sym, ap, _∙_}
-use Prim.Native.Nat.{_+_, _-_, _≤_, _<_}
+use mathlib.Core.Path.{sym, ap}
+use Prim.Native.Nat.{_+_, _-_}
 use native.Mathlib.Omega.{arith}
 use borrow.Author.Needs.{needs}
 use lib.ListN.{set}
@@ -28,7 +28,7 @@ remove-requires c κs =
     let s = c .args .self .now in
     let full = s .full in
     let r = held-room s (c .args .place) (c .if-place-ge-PLACES .left) (c .in-Ok .at) (c .in-Ok .ensures tt) in
-    (r .0, omega arith)
+    (omega arith, omega arith)
 
 pub sub-self : need.sub-self
 sub-self c =
@@ -43,7 +43,7 @@ removed c =
     (c .remove .last .entries) (c .remove .ensures)
 
 pub ghost-self : need.ghost-self
-ghost-self c = let k = removed c in (k .full, (k .normal, (k .counted, tt)))
+ghost-self c = let k = removed c in (k .full, (k .room, (k .ordered, (k .blank, tt))))
 
 pub offset-self-at : need.offset-self-at
 offset-self-at c =
@@ -65,14 +65,14 @@ written c =
     (ap (λ x. set (c .args .self .now .entries) (c .in-Ok .at) record { place = c .args .place; value = x }) (toZ-ofZ w32 v (c .fits .value)))
 
 pub ghost-self-in-Ok-2 : need.ghost-self-in-Ok-2
-ghost-self-in-Ok-2 c = let k = written c in (k .full, (k .normal, (k .counted, tt)))
+ghost-self-in-Ok-2 c = let k = written c in (k .full, (k .room, (k .ordered, (k .blank, tt))))
 
 pub insert-requires : need.insert-requires
 insert-requires c κs =
     let s = c .args .self .now in
     let full = s .full in
     let r = free-room s (c .args .place) (c .if-place-ge-PLACES .left) (c .in-Err .field-0) (c .in-Err .ensures tt) in
-    (r .0, omega arith)
+    (omega arith, omega arith)
 
 pub add-self : need.add-self
 add-self c =
@@ -89,7 +89,7 @@ inserted c =
     (c .insert .last .entries) (simp toZ-ofZ at (c .insert .ensures))
 
 pub ghost-self-in-Err-2 : need.ghost-self-in-Err-2
-ghost-self-in-Err-2 c = let k = inserted c in (k .full, (k .normal, (k .counted, tt)))
+ghost-self-in-Err-2 c = let k = inserted c in (k .full, (k .room, (k .ordered, (k .blank, tt))))
 
 pub returns-in-Ok : need.returns-in-Ok
 returns-in-Ok c =
