@@ -8,15 +8,17 @@ pub struct Chain {
     pub top: u8,
 }
 
+const BOTTOM: u32 = 0;
+
 pub impl Lattice for Chain as ChainLattice {
     ghost lattice = { λ l. chain (l .top) };
 
     fn known(&self, code: u32) -> bool {
-        code <= self.top as u32
+        code <= self.highest()
     }
 
     fn below(&self, a: u32, b: u32) -> bool {
-        a <= b && b <= self.top as u32
+        a <= b && self.known(b)
     }
 
     fn join(&self, a: u32, b: u32) -> u32 {
@@ -24,7 +26,7 @@ pub impl Lattice for Chain as ChainLattice {
     }
 
     fn lowest(&self) -> u32 {
-        0
+        BOTTOM
     }
 
     fn highest(&self) -> u32 {

@@ -6,17 +6,14 @@ use crate::Lattice;
 #[derive(Clone, Copy)]
 pub struct ReaderSets;
 
-// Everybody may read: the lowest level, and the largest known code.
 const EVERYBODY: u32 = 65535;
-
-// Nobody may read: the highest level.
 const NOBODY: u32 = 0;
 
 pub impl Lattice for ReaderSets as ReaderSetsLattice {
     ghost lattice = { λ _. readerSets };
 
     fn known(&self, code: u32) -> bool {
-        code <= EVERYBODY
+        code <= self.lowest()
     }
 
     fn below(&self, a: u32, b: u32) -> bool {
@@ -24,7 +21,7 @@ pub impl Lattice for ReaderSets as ReaderSetsLattice {
     }
 
     fn join(&self, a: u32, b: u32) -> u32 {
-        if self.known(a) && self.known(b) { a & b } else { NOBODY }
+        if self.known(a) && self.known(b) { a & b } else { self.highest() }
     }
 
     fn lowest(&self) -> u32 {

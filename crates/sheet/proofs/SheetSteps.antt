@@ -64,7 +64,14 @@ module _ (C : Lattice) (known : List Bool) (bs : List ℕ) where
   far-end t place left b e f =
       let h : sheetIn C bs ≡ accepted (f .sheet) = f .goes ∙ ap (answer C (closed place (f .sheet))) e ∙ closing.end C place (f .sheet) in
       let v = acceptance C .only bs b (f .sheet) h in
-      record { sheet = f .sheet; answer = h; valid = v .0; writes = v .1; represents = f .represents }
+      record {
+        sheet = f .sheet;
+        answer = h;
+        valid = v .0;
+        writes = v .1;
+        unique = λ sh w e. acceptance C .unique sh (f .sheet) w (v .0) (sym e ∙ v .1);
+        represents = f .represents;
+      }
 
 pub wrong-length : (C : Lattice) (bs : List ℕ) → wholeRecords bs ≡ false → SheetRefused C bs (refusal 2 0 0)
 unfolding sheetIn

@@ -19,6 +19,7 @@ pub record SheetRead (C : Lattice) (bs : List ℕ) (t : SheetTable) : Type 0 whe
   pub answer : sheetIn C bs ≡ accepted sheet
   pub valid : Valid C sheet
   pub writes : bs ≡ bytes (written sheet)
+  pub unique : (sh : Sheet) → Valid C sh → bs ≡ bytes (written sh) → sh ≡ sheet
   pub represents : Represents t sheet
 
 pub record SheetRefused (C : Lattice) (bs : List ℕ) (e : Refusal) : Type 0 where

@@ -13,7 +13,6 @@ mod wipers;
 
 pub use read::SHEET_BYTES;
 pub use read::read_sheet;
-pub use read::sheets_are_accepted_exactly;
 pub use rows::Grant;
 pub use rows::SheetTable;
 pub use rows::VariableRow;

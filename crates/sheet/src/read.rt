@@ -1,7 +1,5 @@
 // The reader of sheets.
 ghost use Rattle.std.specs.Results.{Cases};
-ghost use Rattle.lattice.specs.Lattice.{Lattice as AnyLattice};
-ghost use Rattle.sheet.specs.Acceptance.{AcceptsExactlyTheValid};
 ghost use Rattle.sheet.specs.Reader.{SheetRead, SheetRefused};
 use crate::items::read_item;
 use crate::levels::tabulate_known;
@@ -34,10 +32,4 @@ pub fn read_sheet<L: Lattice>(lattice: &L, bytes: &[u8]) -> Result<SheetTable, R
         left = after;
     }
     Ok(table)
-}
-
-/// The rules accept a sheet's bytes exactly where a valid sheet writes them, over every lattice.
-pub fn sheets_are_accepted_exactly()
-    ensures { λ _. ⌜ ((C : AnyLattice) → AcceptsExactlyTheValid C) ⌝ }
-{
 }
