@@ -4,17 +4,21 @@ use mathlib.Core.List.{List, [], _∷_}
 use mathlib.Core.Path.{_≡_, refl, ap, _∙_}
 use Rattle.records.specs.declared.refusal.Refusal.{Refusal}
 use Rattle.records.specs.Rules.{Rule}
+use Rattle.records.proofs.Firsts.{AllHold}
 use Rattle.machine.specs.Calls.{Answer}
 use Rattle.machine.specs.Machine.{State, Step, answered, asked}
 
-abbrev pub AllHold : List Rule → Type 0
-AllHold [] = Unit {0}
-AllHold (q ∷ qs) = (q .holds ≡ true) × AllHold qs
+-- the first rule fails, or holds
+pub asked-no : (st : State) (q : Rule) (qs : List Rule) (t : Step) → q .holds ≡ false → asked st (q ∷ qs) t ≡ answered st (Answer.refused (q .refusal))
+asked-no st q qs t h = ap (λ b. cond b (asked st qs t) (answered st (Answer.refused (q .refusal)))) h
+
+pub asked-yes : (st : State) (q : Rule) (qs : List Rule) (t : Step) → q .holds ≡ true → asked st (q ∷ qs) t ≡ asked st qs t
+asked-yes st q qs t h = ap (λ b. cond b (asked st qs t) (answered st (Answer.refused (q .refusal)))) h
 
 -- where all rules hold, the step is taken
 pub asked-all : (st : State) (qs : List Rule) (t : Step) → AllHold qs → asked st qs t ≡ t
 asked-all st [] t h = refl
-asked-all st (q ∷ qs) t h = ap (λ b. cond b (asked st qs t) (answered st (Answer.refused (q .refusal)))) (h .0) ∙ asked-all st qs t (h .1)
+asked-all st (q ∷ qs) t h = asked-yes st q qs t (h .0) ∙ asked-all st qs t (h .1)
 
 pub asked-keeps : (P : Step → Type 0) (st : State) (qs : List Rule) (t : Step) → ((r : Refusal) → P (answered st (Answer.refused r))) → P t → P (asked st qs t)
 asked-keeps P st [] t h k = k

@@ -15,7 +15,6 @@ use Rattle.sheet.specs.Sheet.{Sheet, policyOf, levelOf}
 use Rattle.machine.specs.Typing.{outermost, underVariable, ContextFlowsTo}
 use Rattle.machine.specs.Run.{permitted}
 use Rattle.machine.specs.Examples.{MachineExamples, ReleaseWellTyped, permitting, transient}
-use Rattle.machine.proofs.Loops.{while-law}
 use Rattle.machine.proofs.Policies.{lifted-wiped}
 
 pub from-top : (C : Lattice) (sh : Sheet) (p : Policy) → ContextFlowsTo C sh outermost p
@@ -56,7 +55,6 @@ release-accepted = (refl, refl, refl, record { variables = λ v h. absurd (false
 pub machine-examples : MachineExamples
 unfolding wrapped bit permitted
 machine-examples = record {
-  loops = while-law;
   sums-wrap = refl;
   less-is-signed = refl;
   countdown-well-typed =

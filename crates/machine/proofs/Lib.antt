@@ -11,6 +11,8 @@ pub mod Steps
 pub mod Histories
 pub mod SameOrders
 pub mod Promises
+pub mod Laws
+pub mod Sheets
 pub mod Examples
 pub mod Sample
 pub mod Needed

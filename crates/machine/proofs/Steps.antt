@@ -9,6 +9,7 @@ use lib.IntN.{ℤ, pos}
 use lib.ListN.{length}
 use Rattle.lattice.specs.Lattice.{Lawful, Known}
 use Rattle.records.specs.Rules.{Rule, Reading, accepted, refused}
+use Rattle.records.proofs.Firsts.{AllHold}
 use Rattle.sheet.specs.Sheet.{Sheet, declaredVariable, declaredCondition}
 use Rattle.machine.specs.Command.{Command}
 use Rattle.machine.specs.Typing.{outermost, WellTyped}
@@ -18,7 +19,7 @@ use Rattle.machine.specs.Calls.{Call, Answer}
 use Rattle.machine.specs.Machine.{System, State, bare, ready, Step, answered, asked, isVariable, mayBeFed, isLevel, mayKnow, isLongEnough, readableAt, asks, begun, loaded, ended, passed, rulesOf, effect, firstStep, step}
 use Rattle.machine.specs.Observation.{Observer, hidden, releasedAt}
 use Rattle.machine.specs.Promises.{SoundReaders}
-use Rattle.machine.proofs.Asking.{AllHold, asked-keeps, asked-both}
+use Rattle.machine.proofs.Asking.{asked-keeps, asked-both}
 use Rattle.machine.proofs.Memories.{View, Fair, sees, seesCondition, releases, visible-declared, Agree, agree-refl, agree-sym, agree-trans, wiped-same, write-visible, write-hidden, raised-both, raised-hidden, lowered-both, lowered-hidden}
 use Rattle.machine.proofs.Runs.{Track, track}
 use Rattle.machine.proofs.Every.{all-of}

@@ -1,8 +1,8 @@
 -- Worked examples of the machine, on the chain with top 3.
-use mathlib.Core.Bool.{true, false}
+use mathlib.Core.Bool.{true}
 use mathlib.Core.List.{List, [], _∷_}
 use mathlib.Core.Path.{_≡_}
-use Prim.Native.Nat.{ℕ, zero, suc}
+use Prim.Native.Nat.{ℕ}
 use mathlib.Core.Option.{some}
 use lib.IntN.{ℤ, pos, negsuc}
 use Rattle.lattice.specs.Lattice.{Below}
@@ -11,8 +11,8 @@ use Rattle.policy.specs.Policy.{Set, none, add, Policy, leaf, erase, presentLev
 use Rattle.sheet.specs.Sheet.{Sheet, Variable}
 use Rattle.machine.specs.Command.{plus, minus, less, Command, skip, _⨾_, set, combine, release, ifVariable, while}
 use Rattle.machine.specs.Typing.{outermost, WellTyped}
-use Rattle.machine.specs.Memory.{Memory, cleared, raised}
-use Rattle.machine.specs.Run.{calculate, Release, done, spent, andThen, isZero, run}
+use Rattle.machine.specs.Memory.{cleared, raised}
+use Rattle.machine.specs.Run.{calculate, Release}
 use Rattle.machine.specs.Calls.{Answer}
 use Rattle.machine.specs.Machine.{State, bare, ready, passed, Step}
 
@@ -61,11 +61,6 @@ abbrev pub ReleaseWellTyped : (level : ℕ) → (from to : Policy) → Type 0
 ReleaseWellTyped level from to = WellTyped (chain 3) (permitting level from to) outermost (release 1 0 0)
 
 pub record MachineExamples : Type 0 where
-  -- a loop, whatever bounds its tests: a false test ends it at no cost, and a true one takes a turn, or stops the run where there is none
-  pub loops : (sh : Sheet) (b : ℕ) (c : Command) (n : ℕ) (m : Memory) → run sh (while b c) n m ≡ elim (isZero (m .values b)) [
-    | true ↦ done n m []
-    | false ↦ elim n [ zero ↦ spent m [] | suc k ↦ andThen (run sh c k m) (run sh (while b c)) ]
-  ]
   pub sums-wrap : calculate plus (pos 2147483647) (pos 1) ≡ negsuc 2147483647
   pub less-is-signed : calculate less (negsuc 0) (pos 0) ≡ pos 1
   pub countdown-well-typed : WellTyped (chain 3) public outermost countdown

@@ -1,5 +1,6 @@
 pub mod Command
 pub mod SoundSheet
+pub mod SheetReader
 pub mod Typing
 pub mod Memory
 pub mod Run
@@ -7,6 +8,7 @@ pub mod Calls
 pub mod Machine
 pub mod Observation
 pub mod Promises
+pub mod Laws
 pub mod Examples
 pub mod Sample
 pub mod Needed

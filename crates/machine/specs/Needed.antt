@@ -4,7 +4,7 @@ use mathlib.Core.Path.{_≡_}
 use lib.IntN.{ℤ, pos}
 use Rattle.lattice.specs.Chain.{chain}
 use Rattle.records.specs.Rules.{accepted}
-use Rattle.policy.specs.Policy.{Set, none, add, leaf, erase}
+use Rattle.policy.specs.Policy.{Set, none, add, leaf}
 use Rattle.sheet.specs.Sheet.{Sheet}
 use Rattle.machine.specs.Command.{Command, skip, _⨾_, set, combine, plus, raise, ifVariable, ifCondition, while}
 use Rattle.machine.specs.Calls.{Call}
@@ -33,6 +33,10 @@ fed x = Call.sheet [] ∷ Call.load [] ∷ Call.feed 0 x ∷ Call.pass 5 ∷ Cal
 abbrev pub Leaks : Command → Type 0
 Leaks c = ToldApart (lax secrets c) (observing 1 none) bare bare (fed (pos 1)) (fed (pos 0))
 
+-- what level 1 does after condition 1 was raised, or was not
+abbrev pub asking : List Call
+asking = Call.load [] ∷ Call.pass 5 ∷ Call.look 1 1 ∷ []
+
 abbrev pub onlyFirst : Set
 onlyFirst = add 0 none
 
@@ -45,10 +49,14 @@ copying x = Call.sheet [] ∷ Call.load [] ∷ Call.feed 0 x ∷ Call.pass 5 ∷
 
 -- condition 0 at level 3 wipes a variable at level 1
 abbrev pub wiping : System
-wiping = lax (record { conditions = 3 ∷ []; variables = variable (erase 0 (leaf 1) (leaf 3)) ∷ []; permits = [] }) skip
+wiping = lax (record { conditions = 3 ∷ []; variables = variable transient ∷ []; permits = [] }) skip
 
+-- variable 0 is fed, and condition 0 is not raised
 abbrev pub begin : ℤ → List Call
 begin x = Call.sheet [] ∷ Call.feed 0 x ∷ []
+
+abbrev pub begun : ℤ → State
+begun x = final (lax copied skip) bare (begin x)
 
 pub record RulesAreNeeded : Type 0 where
   pub reads-flow : Leaks (combine plus 1 0 0)
@@ -58,15 +66,10 @@ pub record RulesAreNeeded : Type 0 where
   pub tests-flow-into-raises : Leaks (ifVariable 0 (raise 0) skip)
   pub loops-test-the-lowest : Leaks (while 0 (set 0 (pos 0)))
   pub loops-stand-at-the-lowest : Leaks (set 2 (pos 1) ⨾ ifVariable 0 (while 2 skip) skip)
-  pub conditions-flow :
-      ToldApart (lax secrets (ifCondition 1 (set 1 (pos 1)) skip)) (observing 1 none) bare bare (Call.sheet [] ∷ Call.raise 1 ∷ Call.load [] ∷ Call.pass 5 ∷ Call.look 1 1 ∷ [])
-      (Call.sheet [] ∷ Call.load [] ∷ Call.pass 5 ∷ Call.look 1 1 ∷ [])
+  pub conditions-flow : ToldApart (lax secrets (ifCondition 1 (set 1 (pos 1)) skip)) (observing 1 none) bare bare (Call.sheet [] ∷ Call.raise 1 ∷ asking) (Call.sheet [] ∷ asking)
   -- present levels would let the copy pass
   pub later-levels-count : ToldApart (lax copied (combine plus 1 0 0)) (observing 1 onlyFirst) bare bare (copying (pos 7)) (copying (pos 9))
-  pub wipers-are-below : ToldApart wiping (observing 1 none) bare bare (Call.sheet [] ∷ Call.raise 0 ∷ Call.feed 0 (pos 7) ∷ []) (Call.sheet [] ∷ Call.feed 0 (pos 7) ∷ [])
+  pub wipers-are-below : ToldApart wiping (observing 1 none) bare bare (Call.sheet [] ∷ Call.raise 0 ∷ Call.feed 0 (pos 7) ∷ []) (begin (pos 7))
   -- two boxes alike under the set; where the set is not up, what it is to wipe can still be seen
-  pub alike-before-the-cuts :
-      SameInput (chain 3) (chain 3) (observing 1 onlyFirst) (history (lax copied skip) bare (begin (pos 7))) (history (lax copied skip) bare (begin (pos 9)))
-  pub the-set-is-up :
-      ToldApart (lax copied skip) (observing 1 none) (final (lax copied skip) bare (begin (pos 7))) (final (lax copied skip) bare (begin (pos 9))) (Call.look 1 0 ∷ [])
-      (Call.look 1 0 ∷ [])
+  pub alike-before-the-cuts : SameInput (chain 3) (chain 3) (observing 1 onlyFirst) (history (lax copied skip) bare (begin (pos 7))) (history (lax copied skip) bare (begin (pos 9)))
+  pub the-set-is-up : ToldApart (lax copied skip) (observing 1 none) (begun (pos 7)) (begun (pos 9)) (Call.look 1 0 ∷ []) (Call.look 1 0 ∷ [])

@@ -1,4 +1,4 @@
--- A sheet and a program with readers that accept just these, on the chain with top 3: what the promises ask of readers can be met.
+-- The reader of sheets with a reader that accepts one program, and a session: what the promises ask of readers can be met.
 use mathlib.Core.Bool.{Bool, true, false, _&&_}
 use mathlib.Core.List.{List, [], _∷_, map}
 use mathlib.Core.Path.{_≡_}
@@ -7,26 +7,18 @@ use lib.IntN.{pos}
 use lib.Dec.{eqb}
 use mir.Syntax.{w32}
 use mir.Val.{ofZ}
-use Rattle.lattice.specs.Lattice.{Lattice}
 use Rattle.lattice.specs.Chain.{chain}
 use Rattle.records.specs.declared.Record.{Record}
 use Rattle.records.specs.Records.{bytes}
 use Rattle.records.specs.Refusals.{refusal}
 use Rattle.records.specs.Rules.{Rule, rule, first, accepted}
-use Rattle.policy.specs.Policy.{leaf}
-use Rattle.sheet.specs.Sheet.{Sheet}
+use Rattle.policy.specs.Policy.{Policy, leaf, erase}
+use Rattle.sheet.specs.Sheet.{Sheet, policyOf, declaredVariable}
 use Rattle.machine.specs.Command.{Command, skip, _⨾_, combine, plus}
 use Rattle.machine.specs.Calls.{Call, Answer}
 use Rattle.machine.specs.Machine.{Readers, System, bare, history}
+use Rattle.machine.specs.SheetReader.{readSheet}
 use Rattle.machine.specs.Promises.{SoundReaders, SameKind}
-use Rattle.machine.specs.Examples.{transient}
-
-abbrev pub sampleSheet : Sheet
-sampleSheet = record {
-  conditions = 0 ∷ [];
-  variables = record { policy = transient; fed = true } ∷ record { policy = leaf 0; fed = false } ∷ record { policy = transient; fed = false } ∷ [];
-  permits = [];
-}
 
 abbrev pub sampleProgram : Command
 sampleProgram = combine plus 2 0 0 ⨾ skip
@@ -53,14 +45,20 @@ same [] (y ∷ ys) = false
 same (x ∷ xs) [] = false
 same (x ∷ xs) (y ∷ ys) = eqb x y && same xs ys
 
-abbrev pub sheetRules : Lattice → List ℕ → List Rule
-sheetRules C xs = rule 3 0 0 (same xs sheetBytes) ∷ rule 6 0 0 (C .known 0) ∷ rule 6 3 1 (C .known 1) ∷ rule 6 4 3 (C .known 3) ∷ rule 9 1 0 (C .below 0 1) ∷ []
+abbrev pub samePolicy : Policy → Policy → Bool
+samePolicy (leaf l) (leaf k) = eqb l k
+samePolicy (leaf l) (erase d r t) = false
+samePolicy (erase c p q) (leaf k) = false
+samePolicy (erase c p q) (erase d r t) = eqb c d && (samePolicy p r && samePolicy q t)
 
-abbrev pub programRules : List ℕ → List Rule
-programRules xs = rule 12 0 0 (same xs programBytes) ∷ []
+-- a value may flow to a variable of the same policy
+abbrev pub programRules : Sheet → List ℕ → List Rule
+programRules sh xs =
+    rule 12 0 0 (same xs programBytes) ∷ rule 14 0 2 (declaredVariable sh 2) ∷ rule 14 0 0 (declaredVariable sh 0)
+    ∷ rule 16 0 0 (samePolicy (policyOf sh 0) (policyOf sh 2)) ∷ []
 
 abbrev pub sampleReaders : Readers
-sampleReaders = record { sheet = λ C xs. first (sheetRules C xs) (accepted sampleSheet); program = λ C sh xs. first (programRules xs) (accepted sampleProgram) }
+sampleReaders = record { sheet = readSheet; program = λ C sh xs. first (programRules sh xs) (accepted sampleProgram) }
 
 -- the store shows the last byte of each value
 abbrev pub sample : System
@@ -74,7 +72,8 @@ session =
 abbrev pub sessionAnswers : List Answer
 sessionAnswers =
     Answer.number (pos 3) ∷ Answer.number (pos 1) ∷ Answer.number (pos 0) ∷ Answer.done 0 ∷ Answer.number (pos 14)
-    ∷ Answer.number (pos 0) ∷ Answer.number (pos 0) ∷ Answer.refused (refusal 20 0 0) ∷ Answer.number (pos 0) ∷ Answer.number (pos 0) ∷ Answer.refused (refusal 25 0 0) ∷ []
+    ∷ Answer.number (pos 0) ∷ Answer.number (pos 0) ∷ Answer.refused (refusal 20 0 0)
+    ∷ Answer.number (pos 0) ∷ Answer.number (pos 0) ∷ Answer.refused (refusal 25 0 0) ∷ []
 
 pub record SampleStands : Type 0 where
   pub sound : SoundReaders sampleReaders

@@ -1,5 +1,6 @@
 // What a box does, told as a machine: programs, calls and answers; and what is promised of every box.
 ghost use Rattle.machine.specs.Examples.{MachineExamples};
+ghost use Rattle.machine.specs.Laws.{MachineLaws};
 ghost use Rattle.machine.specs.Machine.{Readers};
 ghost use Rattle.machine.specs.Needed.{RulesAreNeeded};
 ghost use Rattle.machine.specs.Promises.{SoundReaders, WipedWhileUp, HiddenCallsLeaveNoTrace, WipedValuesLeaveNoTrace};
@@ -18,6 +19,13 @@ pub fn promises_hold() -> u8
 /// What the promises ask of lattices and readers can be met: a box that reads a sheet and a program, and runs it.
 pub fn hypotheses_can_be_met() -> u8
     ensures { λ _. ⌜ SampleStands ⌝ }
+{
+    0
+}
+
+/// A loop obeys its law, and a refusal changes nothing.
+pub fn machine_laws_hold() -> u8
+    ensures { λ _. ⌜ MachineLaws ⌝ }
 {
     0
 }

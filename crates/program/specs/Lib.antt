@@ -1,2 +1,9 @@
 pub mod Written
 pub mod Kept
+pub mod Deciding
+pub mod Rules
+pub mod Checks
+pub mod Valid
+pub mod Acceptance
+pub mod Examples
+pub mod Readers

@@ -1,0 +1,10 @@
+pub mod Examples
+pub mod Deciding
+pub mod Steps
+pub mod Contexts
+pub mod Accepted
+pub mod Accepting
+pub mod Acceptance
+pub mod ContextMasks
+pub mod Usable
+pub mod Readers
