@@ -7,8 +7,13 @@ use Rattle.std.specs.Orderings.{Decides}
 use Rattle.std.proofs.shelf.Tests.{both-ways, eqb-true, eq-eqb, or-left}
 use Rattle.lattice.specs.Lattice.{Lattice, Below}
 use Rattle.lattice.specs.Chain.{chain}
-use Rattle.policy.specs.Policy.{Set}
-use Rattle.examples.specs.Worked.{ErasureIsKept, WipersDiffer, FirstWipes, ReadersMeet, WorkedExamples}
+use mathlib.Core.List.{[], _∷_}
+use Rattle.records.specs.Records.{bytes, records}
+use Rattle.policy.specs.Policy.{Set, leaf, erase}
+use Rattle.sheet.specs.Rules.{answer, sheetIn}
+use Rattle.machine.proofs.Examples.{machine-examples}
+use Rattle.store.proofs.Examples.{example-image}
+use Rattle.examples.specs.Worked.{ErasureIsKept, WipersDiffer, FirstWipes, ReadersMeet, TreesAreFourDeep, WorkedExamples}
 
 every : Set
 every c = true
@@ -80,5 +85,25 @@ order = record {
 readers : ReadersMeet
 readers = record { joined = refl; fewer-above = refl; others-not = refl }
 
+depth : TreesAreFourDeep
+unfolding sheetIn answer records bytes
+depth = record {
+  leaf-at-four = (record {
+    conditions = 0 ∷ [];
+    variables = record { policy = erase 0 (erase 0 (erase 0 (leaf 0) (leaf 0)) (leaf 0)) (leaf 0); fed = false } ∷ [];
+    permits = [];
+  }, refl);
+  node-at-four = refl;
+  leaf-at-five = refl;
+}
+
 pub worked-examples : WorkedExamples
-worked-examples = record { erasure = erasure; wipers = wipers; order = order; readers = readers }
+worked-examples = record {
+  erasure = erasure;
+  wipers = wipers;
+  order = order;
+  readers = readers;
+  depth = depth;
+  machine = machine-examples;
+  sparse = example-image;
+}

@@ -1,11 +1,22 @@
--- Worked examples: small policies on the chain of the levels 0 to 3, and sets of readers.
+-- Worked examples, gathered: small policies on the chain of the levels 0 to 3, sets of readers, the depth of trees, the machine's
+-- arithmetic, loop and story, and the sparse store's image.
 use mathlib.Core.Bool.{Bool, true, false}
+use mathlib.Core.List.{List, [], _∷_, _++_}
 use mathlib.Core.Path.{_≡_}
 use Prim.Native.Nat.{ℕ}
 use Rattle.std.specs.Orderings.{Decides}
 use Rattle.lattice.specs.Lattice.{Lattice, Below}
 use Rattle.lattice.specs.Chain.{chain}
 use Rattle.lattice.specs.ReaderSets.{readerSets}
+use Rattle.records.specs.declared.Record.{Record}
+use Rattle.records.specs.Records.{bytes}
+use Rattle.records.specs.Rules.{accepted, refusedBy}
+use Rattle.sheet.specs.Sheet.{Sheet}
+use Rattle.sheet.specs.Written.{conditionRecord, variableRecord, leafRecord, eraseRecord}
+use Rattle.sheet.specs.Rules.{sheetIn}
+use Rattle.machine.specs.Examples.{MachineExamples}
+use Rattle.store.specs.Images.{sparseImage}
+use Rattle.store.specs.Examples.{exampleValues, exampleImage}
 use Rattle.policy.specs.Policy.{Policy, leaf, erase, FlowsTo, wipes}
 
 -- flows on this chain
@@ -64,8 +75,22 @@ pub record ReadersMeet : Type 0 where
   pub fewer-above : Below readerSets 3 2
   pub others-not : readerSets .below 3 6 ≡ false
 
+-- condition 0 at level 0, and variable 0 with three erasing nodes one below the other
+abbrev threeDeep : List Record
+threeDeep = conditionRecord 0 0 ∷ variableRecord 0 false ∷ eraseRecord 0 ∷ eraseRecord 0 ∷ eraseRecord 0 ∷ []
+
+-- A leaf may stand at depth 4. An erasing node may too: the sheet is then only unfinished; but the leaf below it may not.
+pub record TreesAreFourDeep : Type 0 where
+  pub leaf-at-four : (sh : Sheet) × (sheetIn (chain 3) (bytes (threeDeep ++ (leafRecord 0 ∷ leafRecord 0 ∷ leafRecord 0 ∷ leafRecord 0 ∷ []))) ≡ accepted sh)
+  pub node-at-four : sheetIn (chain 3) (bytes (threeDeep ++ (eraseRecord 0 ∷ []))) ≡ refusedBy 3 6 0
+  pub leaf-at-five : sheetIn (chain 3) (bytes (threeDeep ++ (eraseRecord 0 ∷ leafRecord 0 ∷ []))) ≡ refusedBy 8 6 0
+
 pub record WorkedExamples : Type 0 where
   pub erasure : ErasureIsKept
   pub wipers : WipersDiffer
   pub order : FirstWipes
   pub readers : ReadersMeet
+  pub depth : TreesAreFourDeep
+  pub machine : MachineExamples
+  -- after 5 at place 9, -1 at 2 and 0 at 9
+  pub sparse : sparseImage exampleValues ≡ exampleImage

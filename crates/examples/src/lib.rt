@@ -2,7 +2,7 @@
 ghost use mathlib.Core.Path.{_≡_};
 ghost use Rattle.examples.specs.Worked.{WorkedExamples};
 
-/// The worked examples on policies and lattices hold.
+/// All worked examples hold, on policies, lattices, sheets, the machine and stores.
 pub fn worked_examples_hold() -> u8
     ensures answer { λ r. ⌜ r ≡ 0 ⌝ }
     ensures examples { λ _. ⌜ WorkedExamples ⌝ }
