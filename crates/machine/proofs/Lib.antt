@@ -1,4 +1,3 @@
-pub mod Orders
 pub mod Policies
 pub mod Every
 pub mod Values

@@ -14,7 +14,7 @@ use Rattle.machine.specs.SoundSheet.{SoundSheet, HasVariable}
 use Rattle.machine.specs.Memory.{Memory, update, write, raised, lowered}
 use Rattle.machine.specs.Run.{Release}
 use Rattle.machine.specs.Observation.{Observer, observableVariable, observableCondition, releasedIn}
-use Rattle.machine.proofs.Orders.{chain}
+use Rattle.policy.proofs.Orders.{below-trans}
 use Rattle.machine.proofs.Policies.{grows, wiped-alike}
 
 -- memories are equal where all values and all conditions are
@@ -79,8 +79,8 @@ module _ {V : View} (F : Fair V) where
     where
       go : (d : Bool) → declaredVariable (V .sheet) v ≡ d → cond d (sees V v) true ≡ true → seesCondition V c ≡ true
       go true e k =
-          chain (F .lawful) _ _ _ (F .sheet .wipers v c e h)
-          (chain (F .lawful) _ _ _ (grows (F .lawful) (V .observer .set) (policyOf (V .sheet) v) (F .sheet .variables v e)) k)
+          below-trans (F .lawful) _ _ _ (F .sheet .wipers v c e h)
+          (below-trans (F .lawful) _ _ _ (grows (F .lawful) (V .observer .set) (policyOf (V .sheet) v) (F .sheet .variables v e)) k)
       go false e k =
           let undeclared = List·getD-eq-default (V .sheet .variables) (record { policy = leaf 0; fed = false }) (ltb-false v (length (V .sheet .variables)) e) in
           absurd (false≢true (sym (ap (λ (x : Variable). wipes c (x .policy)) undeclared) ∙ h))

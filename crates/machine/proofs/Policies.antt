@@ -7,28 +7,19 @@ use lib.Dec.{eqb}
 use Rattle.std.proofs.shelf.Tests.{or-cases, or-left, or-right, eq-eqb, eqb-true}
 use Rattle.lattice.specs.Lattice.{Lattice, Lawful, Known, Below}
 use Rattle.policy.specs.Policy.{Set, Policy, leaf, erase, levelUnder, presentLevel, KnownLevels, wipes, wipedBy}
-use Rattle.machine.proofs.Orders.{chain}
+use Rattle.policy.proofs.Orders.{below-trans}
+use Rattle.policy.proofs.RowLevels.{known-under}
 
 module _ {C : Lattice} (W : Lawful C) where
-  pub known-under : (s : Set) (p : Policy) → KnownLevels C p → Known C (levelUnder C s p)
-  known-under s (leaf l) k = k
-  known-under s (erase c p q) k =
-      let kp = known-under s p (k .0) in
-      let kq = known-under s q (k .1) in
-      elim (s c) as (λ b. Known C (cond b (C .join (levelUnder C s p) (levelUnder C s q)) (levelUnder C s p))) [
-        | true ↦ W .join-known _ _ kp kq
-        | false ↦ kp
-      ]
-
   -- the level grows with the set
   pub grows : (s : Set) (p : Policy) → KnownLevels C p → Below C (presentLevel C p) (levelUnder C s p)
   grows s (leaf l) k = W .reflexive l k
   grows s (erase c p q) k =
-      let kp = known-under s p (k .0) in
-      let kq = known-under s q (k .1) in
+      let kp = known-under W s p (k .0) in
+      let kq = known-under W s q (k .1) in
       let g = grows s p (k .0) in
       elim (s c) as (λ b. Below C (presentLevel C p) (cond b (C .join (levelUnder C s p) (levelUnder C s q)) (levelUnder C s p))) [
-        | true ↦ chain W _ _ _ g (W .join-left _ _ kp kq)
+        | true ↦ below-trans W _ _ _ g (W .join-left _ _ kp kq)
         | false ↦ g
       ]
 

@@ -15,7 +15,7 @@ use Rattle.machine.specs.SoundSheet.{HasVariable}
 use Rattle.machine.specs.Typing.{Context, underVariable, underCondition, underConditions, ContextFlowsTo, WellTyped}
 use Rattle.machine.specs.Memory.{Memory, update, write}
 use Rattle.machine.specs.Run.{Release, Outcome, done, spent, after, andThen, calculate, isZero, released, loop, run}
-use Rattle.machine.proofs.Orders.{chain}
+use Rattle.policy.proofs.Orders.{below-trans}
 use Rattle.machine.proofs.Policies.{grows}
 use Rattle.machine.proofs.Memories.{View, Fair, sees, seesCondition, releases, visible, seen-visible, visible-declared, hidden-unseen, Agree, agree-refl, agree-sym, agree-trans, wiped-same, write-visible, write-hidden, raised-both, raised-hidden}
 
@@ -130,15 +130,15 @@ module _ {V : View} (F : Fair V) where
   -- a secret reaches nothing that can be seen
   secret-reach : (pc : Context) (p : Policy) → Secret V pc → ContextFlowsTo (V .lattice) (V .sheet) pc p
       → Below (V .lattice) (levelUnder (V .lattice) (V .observer .set) p) (V .observer .level) → Below (V .lattice) (presentLevel (V .lattice) p) (V .observer .level) → ⊥
-  secret-reach pc p (by-variable v h o) f k k′ = true≢false (sym (chain (F .lawful) _ _ _ (f .variables v h (V .observer .set)) k) ∙ o)
-  secret-reach pc p (by-condition c h o) f k k′ = true≢false (sym (chain (F .lawful) _ _ _ (f .conditions c h) k′) ∙ o)
+  secret-reach pc p (by-variable v h o) f k k′ = true≢false (sym (below-trans (F .lawful) _ _ _ (f .variables v h (V .observer .set)) k) ∙ o)
+  secret-reach pc p (by-condition c h o) f k k′ = true≢false (sym (below-trans (F .lawful) _ _ _ (f .conditions c h) k′) ∙ o)
 
   target-unseen : (pc : Context) (a : ℕ) → Secret V pc → HasVariable (V .sheet) a → ContextFlowsTo (V .lattice) (V .sheet) pc (policyOf (V .sheet) a) → sees V a ≡ false
   target-unseen pc a x d f = go (sees V a) refl
     where
       go : (b : Bool) → sees V a ≡ b → sees V a ≡ false
       go true e =
-          absurd (secret-reach pc (policyOf (V .sheet) a) x f e (chain (F .lawful) _ _ _ (grows (F .lawful) (V .observer .set) (policyOf (V .sheet) a) (F .sheet .variables a d)) e))
+          absurd (secret-reach pc (policyOf (V .sheet) a) x f e (below-trans (F .lawful) _ _ _ (grows (F .lawful) (V .observer .set) (policyOf (V .sheet) a) (F .sheet .variables a d)) e))
       go false e = e
 
   quiet-write : (n : ℕ) (m : Memory) (a : ℕ) (x : ℤ) → HasVariable (V .sheet) a → sees V a ≡ false → Quiet V n m (done n (write (V .sheet) a x m) [])
@@ -239,7 +239,7 @@ module _ {V : View} (F : Fair V) where
   track (combine s v b c) pc w n m m′ a = track-write n m m′ v _ _ (w .0) (λ o. ap₂ (calculate s) (read b (w .4) o) (read c (w .5) o)) a
     where
       read : (i : ℕ) → FlowsTo (V .lattice) (policyOf (V .sheet) i) (policyOf (V .sheet) v) → sees V v ≡ true → m .values i ≡ m′ .values i
-      read i f o = a .values i (seen-visible V i (chain (F .lawful) _ _ _ (f (V .observer .set)) o))
+      read i f o = a .values i (seen-visible V i (below-trans (F .lawful) _ _ _ (f (V .observer .set)) o))
   track (release v b p) pc w n m m′ a = track-release n m m′ v b p (w .0) a
   track (raise c) pc w n m m′ a = track-done V n (raised-both F m m′ c a)
   track (ifVariable b c d) pc w n m m′ a =
@@ -261,5 +261,5 @@ module _ {V : View} (F : Fair V) where
       under : Context
       under = underCondition b pc
   track (while b c) pc w n m m′ a =
-      let tested = chain (F .lawful) _ _ _ (w .1 .variables b (or-left (eqb b b) (pc .variables b) (eq-eqb b b refl)) (V .observer .set)) (F .lawful .lowest-below _ (F .level)) in
+      let tested = below-trans (F .lawful) _ _ _ (w .1 .variables b (or-left (eqb b b) (pc .variables b) (eq-eqb b b refl)) (V .observer .set)) (F .lawful .lowest-below _ (F .level)) in
       track-loop b (run (V .sheet) c) (seen-visible V b tested) (track c (underVariable b pc) (w .2)) n n m m′ a

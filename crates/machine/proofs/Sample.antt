@@ -24,7 +24,7 @@ use Rattle.machine.specs.Typing.{outermost, WellTyped}
 use Rattle.machine.specs.Promises.{SoundReaders}
 use Rattle.machine.specs.Sample.{sampleProgram, sampleReaders, samePolicy, programRules, SampleStands}
 use Rattle.machine.proofs.Examples.{from-top}
-use Rattle.machine.proofs.Policies.{known-under}
+use Rattle.policy.proofs.RowLevels.{known-under}
 use Rattle.machine.proofs.Sheets.{reader-sound}
 
 chain-lawful : (t : ℕ) → Lawful (chain t)

@@ -1,16 +1,14 @@
 -- The rules accept exactly the valid programs, as they are written. Assumes nothing.
-use mathlib.Core.Path.{_≡_, refl, sym, ap, _∙_}
-use mathlib.Core.Bool.{true, cond, _&&_}
+use mathlib.Core.Path.{_≡_, sym, ap, _∙_}
+use mathlib.Core.Bool.{true}
 use mathlib.Core.List.{List, [], _∷_, _++_}
-use Prim.Native.Nat.{ℕ, _+_, _%_}
+use Prim.Native.Nat.{ℕ, _%_}
 use native.Mathlib.Omega.{arith}
 use lib.Dec.{eqb, leb}
 use lib.ListN.{length}
 use mir.Facts.{fits-ofZ}
-use Rattle.std.proofs.shelf.Lists.{append-nil, append-assoc}
 use Rattle.std.proofs.shelf.Tests.{and-parts, and-from, eqb-true, leb-true, eq-eqb, le-leb}
 use Rattle.lattice.specs.Lattice.{Lattice, Lawful}
-use Rattle.records.specs.declared.Record.{Record}
 use Rattle.records.specs.Records.{Each, Byte, Fit, bytes, records}
 use Rattle.records.specs.Rules.{accepted, rule}
 use Rattle.records.proofs.Firsts.{first-holds, took-all}
@@ -20,30 +18,11 @@ use Rattle.machine.specs.Command.{Command, skip, _⨾_, set, combine, release, 
 use Rattle.machine.specs.Typing.{outermost, WellTyped}
 use Rattle.program.specs.Written.{fields, written}
 use Rattle.program.specs.Rules.{answer, start, wholeRecords, programIn}
-use Rattle.program.specs.Valid.{NumbersFit, Valid, before, normal}
+use Rattle.program.specs.Valid.{NumbersFit, Valid, normal}
 use Rattle.program.specs.Acceptance.{UsableSheet, AcceptsExactlyTheWellTyped}
 use Rattle.program.proofs.Accepted.{valid-accepted}
 use Rattle.program.proofs.Accepting.{accepting-typed, accepting}
-
--- ── how a program and its normal form are written ──
-
-before-written : (c rest : Command) → written (before c rest) ≡ written c ++ written rest
-unfolding written before
-before-written skip rest = refl
-before-written (c ⨾ d) rest = before-written c (before d rest) ∙ ap (λ l. written c ++ l) (before-written d rest) ∙ sym (append-assoc (written c) (written d) (written rest))
-before-written (set a x) rest = refl
-before-written (combine s a b c) rest = refl
-before-written (release a b p) rest = refl
-before-written (raise c) rest = refl
-before-written (ifVariable b c d) rest =
-    λ i. (fields 73 0 b 0 ∷ ((before-written c skip ∙ append-nil (written c)) i ++ (fields 74 0 0 0 ∷ ((before-written d skip ∙ append-nil (written d)) i ++ (fields 75 0 0 0 ∷ []))))) ++ written rest
-before-written (ifCondition a c d) rest =
-    λ i. (fields 81 a 0 0 ∷ ((before-written c skip ∙ append-nil (written c)) i ++ (fields 74 0 0 0 ∷ ((before-written d skip ∙ append-nil (written d)) i ++ (fields 75 0 0 0 ∷ []))))) ++ written rest
-before-written (while b c) rest = λ i. (fields 87 0 b 0 ∷ ((before-written c skip ∙ append-nil (written c)) i ++ (fields 75 0 0 0 ∷ []))) ++ written rest
-
-pub normal-written : (c : Command) → written (normal c) ≡ written c
-unfolding written
-normal-written c = before-written c skip ∙ append-nil (written c)
+use Rattle.program.proofs.Normal.{normal-written, normal-runs}
 
 written-fit : (c : Command) → NumbersFit c → Each Fit (written c)
 unfolding written
@@ -78,9 +57,10 @@ module _ {C : Lattice} (W : Lawful C) (sh : Sheet) (U : UsableSheet C sh) where
   only bs f c h =
       let t = took-all (rule 11 0 0 (wholeRecords bs) ∷ []) (answer C sh start (records bs)) c h in
       let p = and-parts (eqb (length bs % 8) 0) (leb (length bs) 2048) (t .0 .0) in
-      let g = accepting W sh U (records bs) c (records-fit bs f) (t .1) in
-      (record { typed = g .0; nested = g .1; numbers = g .2; size = omega (arith, ap length (g .3), length-records bs, leb-true (length bs) 2048 (p .1)) },
-       sym (bytes-records bs f (eqb-true (length bs % 8) 0 (p .0))) ∙ ap bytes (sym (g .3)))
+      let g = accepting W sh U (records bs) c (records-fit bs f) (t .1) in (
+        record { typed = g .0; nested = g .1; numbers = g .2; size = omega (arith, ap length (g .3), length-records bs, leb-true (length bs) 2048 (p .1)) },
+        sym (bytes-records bs f (eqb-true (length bs % 8) 0 (p .0))) ∙ ap bytes (sym (g .3)),
+      )
 
   pub acceptance : AcceptsExactlyTheWellTyped C sh
-  acceptance = record { only = only; all = all; normal-written = normal-written }
+  acceptance = record { only = only; all = all; normal-written = normal-written; normal-runs = normal-runs sh }

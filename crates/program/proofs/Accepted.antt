@@ -1,36 +1,32 @@
 -- A valid program, written, is accepted in its normal form. Assumes nothing.
 use mathlib.Core.Path.{_≡_, refl, sym, ap, _∙_, subst}
-use mathlib.Core.Bool.{true}
 use mathlib.Core.List.{List, [], _∷_, _++_}
 use Prim.Native.Nat.{ℕ, suc, _+_}
 use native.Mathlib.Omega.{arith}
-use lib.Dec.{eqb, leb}
-use lib.IntN.{ℤ}
 use lib.ListN.{length}
 use mir.Syntax.{w32}
-use mir.Val.{toZ, ofZ}
+use mir.Val.{ofZ}
 use Rattle.std.proofs.shelf.Lists.{append-assoc, append-nil}
 use Rattle.std.proofs.shelf.Signed.{toZ-ofZ}
 use Rattle.std.proofs.shelf.Tests.{le-leb}
 use Rattle.lattice.specs.Lattice.{Lattice, Lawful}
 use Rattle.records.specs.declared.Record.{Record}
-use Rattle.records.specs.Rules.{Reading, accepted, Rule, rule, first}
+use Rattle.records.specs.Rules.{Reading, accepted, rule, first}
 use Rattle.records.proofs.Firsts.{first-holds}
 use Rattle.policy.specs.Policy.{Policy, leaf, KnownLevels}
 use Rattle.policy.specs.Masks.{members}
 use Rattle.sheet.specs.Sheet.{Sheet, policyOf, levelOf, permitAt}
-use Rattle.machine.specs.Command.{Sign, plus, minus, times, less, equal, Command, skip, _⨾_, set, combine, release, raise, ifVariable, ifCondition, while}
-use Rattle.machine.specs.SoundSheet.{SoundSheet}
+use Rattle.machine.specs.Command.{Command, skip, _⨾_, set, combine, release, raise, ifVariable, ifCondition, while}
 use Rattle.machine.specs.Typing.{Context, outermost, underVariable, underCondition, underConditions, ContextFlowsTo, WellTyped}
 use Rattle.program.specs.Deciding.{flows}
 use Rattle.program.specs.Written.{fields, letterOf, written}
 use Rattle.program.specs.Rules.{Test, onVariable, onCondition, tested, branch, Block, thenBlock, elseBlock, loopBlock, at, widest, eachWithin, answer, start}
-use Rattle.program.specs.Checks.{setFields, threeFields, raiseFields, variableTestFields, conditionTestFields, markFields}
+use Rattle.program.specs.Checks.{setFields, threeFields, raiseFields, variableTestFields, conditionTestFields}
 use Rattle.program.specs.Valid.{Nested, NumbersFit, Valid, before, normal}
 use Rattle.program.specs.Acceptance.{UsableSheet}
 use Rattle.program.proofs.Deciding.{flows-complete}
 use Rattle.program.proofs.Steps as steps
-use Rattle.program.proofs.Contexts.{Declared, declared-outermost, declared-variable, declared-condition, HasTested, declared-tested, within-passes, within-flows, reads-two, permit-declared}
+use Rattle.program.proofs.Contexts.{Declared, declared-outermost, declared-variable, declared-condition, within-passes, within-flows, reads-two, permit-declared}
 
 abbrev J : Record
 J = fields 74 0 0 0
@@ -63,10 +59,10 @@ module _ {C : Lattice} (W : Lawful C) (sh : Sheet) (U : UsableSheet C sh) (a : R
   test-goes t c d blocks pc place commands rest f g k =
       ap (answer C sh (at place (thenBlock t pc commands ∷ blocks) (tested t pc) (λ k. k))) (three-parts (written c) (written d) rest J K)
       ∙ f place (λ k. k) (J ∷ (written d ++ (K ∷ rest))) (λ n.
-        steps.else-step C sh n (tested t pc) (before c) pc commands blocks J (written d ++ (K ∷ rest)) t refl
-        ∙ g (n + 1) (λ k. k) (K ∷ rest) (λ m.
-          steps.end-step C sh m (tested t pc) (before d) pc commands blocks K rest t (normal c) refl
-          ∙ k (m + 1)))
+      steps.else-step C sh n (tested t pc) (before c) pc commands blocks J (written d ++ (K ∷ rest)) t refl
+      ∙ g (n + 1) (λ k. k) (K ∷ rest) (λ m.
+      steps.end-step C sh m (tested t pc) (before d) pc commands blocks K rest t (normal c) refl
+      ∙ k (m + 1)))
 
   module _ (number place : ℕ) where
     open-within : (pc : Context) (p : Policy) → Declared sh pc → KnownLevels C p → ContextFlowsTo C sh pc p
@@ -89,7 +85,7 @@ module _ {C : Lattice} (W : Lawful C) (sh : Sheet) (U : UsableSheet C sh) (a : R
       steps.sign-step C sh place blocks pc commands (fields (letterOf s) v b c) rest s refl
       ∙ first-holds (threeFields (fields (letterOf s) v b c) place (length (sh .variables)) (length (sh .variables))) _ (refl, (t .0, (t .1, (t .2, tt))))
       ∙ open-within 16 place (underVariable b (underVariable c pc)) (policyOf sh v) (declared-variable sh b (underVariable c pc) (t .1) (declared-variable sh c pc (t .2) d)) (U .sound .variables v (t .0))
-        (reads-two W sh U b c pc (policyOf sh v) (t .3) (t .4) (t .5)) _
+      (reads-two W sh U b c pc (policyOf sh v) (t .3) (t .4) (t .5)) _
       ∙ k (place + 1)
   goes (release v b p) blocks pc d t n f place commands rest k =
       let permit = permitAt sh p in
@@ -97,9 +93,10 @@ module _ {C : Lattice} (W : Lawful C) (sh : Sheet) (U : UsableSheet C sh) (a : R
       steps.release-step C sh place blocks pc commands (fields 68 v b p) rest refl
       ∙ first-holds (threeFields (fields 68 v b p) place (length (sh .variables)) (length (sh .permits))) _ (refl, (t .0, (t .1, (t .2, tt))))
       ∙ open-within 16 place (underConditions (members (permit .conditions)) pc) (policyOf sh v) (permit-declared W sh U p pc (t .2) d) (U .sound .variables v (t .0)) (t .3) _
-      ∙ first-holds (rule 16 place (512 + p) (flows C (permit .to) (policyOf sh v)) ∷ rule 18 place 0 (flows C (policyOf sh b) (permit .from)) ∷ []) _
-        (flows-complete W (permit .to) (policyOf sh v) (known .1) (U .sound .variables v (t .0)) (t .4),
-        (flows-complete W (policyOf sh b) (permit .from) (U .sound .variables b (t .1)) (known .0) (t .5), tt))
+      ∙ first-holds (rule 16 place (512 + p) (flows C (permit .to) (policyOf sh v)) ∷ rule 18 place 0 (flows C (policyOf sh b) (permit .from)) ∷ []) _ (
+        flows-complete W (permit .to) (policyOf sh v) (known .1) (U .sound .variables v (t .0)) (t .4),
+        (flows-complete W (policyOf sh b) (permit .from) (U .sound .variables b (t .1)) (known .0) (t .5), tt),
+      )
       ∙ k (place + 1)
   goes (raise c) blocks pc d t n f place commands rest k =
       steps.raise-step C sh place blocks pc commands (fields 85 c 0 0) rest refl
@@ -111,17 +108,17 @@ module _ {C : Lattice} (W : Lawful C) (sh : Sheet) (U : UsableSheet C sh) (a : R
       steps.variable-test-step C sh place blocks pc commands (fields 73 0 b 0) _ refl
       ∙ first-holds (variableTestFields (fields 73 0 b 0) place (length (sh .variables)) (length blocks)) _ (refl, (t .0, (le-leb (length blocks + 1) 8 (n .0), tt)))
       ∙ test-goes (onVariable b) c e blocks pc (place + 1) commands rest
-        (goes c (thenBlock (onVariable b) pc commands ∷ blocks) (underVariable b pc) d′ (t .1) (deeper (length blocks) c (n .1)) (f .0))
-        (goes e (elseBlock (onVariable b) (normal c) pc commands ∷ blocks) (underVariable b pc) d′ (t .2) (deeper (length blocks) e (n .2)) (f .1))
-        k
+      (goes c (thenBlock (onVariable b) pc commands ∷ blocks) (underVariable b pc) d′ (t .1) (deeper (length blocks) c (n .1)) (f .0))
+      (goes e (elseBlock (onVariable b) (normal c) pc commands ∷ blocks) (underVariable b pc) d′ (t .2) (deeper (length blocks) e (n .2)) (f .1))
+      k
   goes (ifCondition b c e) blocks pc d t n f place commands rest k =
       let d′ = declared-condition sh b pc (t .0) d in
       steps.condition-test-step C sh place blocks pc commands (fields 81 b 0 0) _ refl
       ∙ first-holds (conditionTestFields (fields 81 b 0 0) place (length (sh .conditions)) (length blocks)) _ (refl, (t .0, (le-leb (length blocks + 1) 8 (n .0), tt)))
       ∙ test-goes (onCondition b) c e blocks pc (place + 1) commands rest
-        (goes c (thenBlock (onCondition b) pc commands ∷ blocks) (underCondition b pc) d′ (t .1) (deeper (length blocks) c (n .1)) (f .0))
-        (goes e (elseBlock (onCondition b) (normal c) pc commands ∷ blocks) (underCondition b pc) d′ (t .2) (deeper (length blocks) e (n .2)) (f .1))
-        k
+      (goes c (thenBlock (onCondition b) pc commands ∷ blocks) (underCondition b pc) d′ (t .1) (deeper (length blocks) c (n .1)) (f .0))
+      (goes e (elseBlock (onCondition b) (normal c) pc commands ∷ blocks) (underCondition b pc) d′ (t .2) (deeper (length blocks) e (n .2)) (f .1))
+      k
   goes (while b c) blocks pc d t n f place commands rest k =
       let d′ = declared-variable sh b pc (t .0) d in
       steps.loop-step C sh place blocks pc commands (fields 87 0 b 0) ((written c ++ (K ∷ [])) ++ rest) refl
@@ -129,8 +126,8 @@ module _ {C : Lattice} (W : Lawful C) (sh : Sheet) (U : UsableSheet C sh) (a : R
       ∙ open-within 17 place (underVariable b pc) (leaf (C .lowest)) d′ (W .lowest-known) (t .1) _
       ∙ ap (answer C sh (at (place + 1) (loopBlock b pc commands ∷ blocks) (underVariable b pc) (λ k. k))) (append-assoc (written c) (K ∷ []) rest)
       ∙ goes c (loopBlock b pc commands ∷ blocks) (underVariable b pc) d′ (t .2) (deeper (length blocks) c (n .1)) f (place + 1) (λ k. k) (K ∷ rest) (λ m.
-        steps.loop-end-step C sh m (underVariable b pc) (before c) pc commands blocks K rest b refl
-        ∙ k (m + 1))
+      steps.loop-end-step C sh m (underVariable b pc) (before c) pc commands blocks K rest b refl
+      ∙ k (m + 1))
 
 pub valid-accepted : {C : Lattice} → Lawful C → (sh : Sheet) → UsableSheet C sh → (c : Command) → Valid C sh c → answer C sh start (written c) ≡ accepted (normal c)
 valid-accepted {C} W sh U c v =

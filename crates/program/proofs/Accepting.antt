@@ -1,11 +1,11 @@
 -- What is accepted is a valid program, written. Assumes nothing.
 use mathlib.Core.Path.{_≡_, refl, sym, ap, _∙_, subst}
-use mathlib.Core.Bool.{Bool, true, false, cond, _&&_}
+use mathlib.Core.Bool.{true, _&&_}
 use mathlib.Core.List.{List, [], _∷_, _++_}
 use mathlib.Core.Logic.{inl, inr}
 use Prim.Native.Nat.{ℕ, suc, _+_, _≤_}
 use native.Mathlib.Omega.{arith}
-use lib.Dec.{eqb, leb, ltb}
+use lib.Dec.{eqb}
 use lib.ListN.{length}
 use mir.Syntax.{w32}
 use mir.Val.{toZ, ofZ}
@@ -17,17 +17,17 @@ use Rattle.lattice.specs.Lattice.{Lattice, Lawful}
 use Rattle.records.specs.declared.Record.{Record}
 use Rattle.records.specs.Refusals.{refusal}
 use Rattle.records.specs.Records.{Each, Fit}
-use Rattle.records.specs.Rules.{Reading, accepted, Rule, rule, first}
+use Rattle.records.specs.Rules.{accepted, rule}
 use Rattle.records.proofs.Firsts.{refused-accepted, took-all}
-use Rattle.policy.specs.Policy.{Policy, leaf}
+use Rattle.policy.specs.Policy.{leaf}
 use Rattle.policy.specs.Masks.{members}
 use Rattle.sheet.specs.Sheet.{Sheet, policyOf, levelOf, permitAt}
-use Rattle.machine.specs.Command.{Sign, plus, minus, times, less, equal, Command, skip, _⨾_, set, combine, release, raise, ifVariable, ifCondition, while}
-use Rattle.machine.specs.SoundSheet.{SoundSheet, HasVariable}
+use Rattle.machine.specs.Command.{Sign, plus, minus, times, less, equal, Command, skip, _⨾_, set, combine, release, raise, while}
+use Rattle.machine.specs.SoundSheet.{HasVariable}
 use Rattle.machine.specs.Typing.{Context, outermost, underVariable, underCondition, underConditions, ContextFlowsTo, WellTyped}
 use Rattle.program.specs.Deciding.{flows}
 use Rattle.program.specs.Written.{fields, letterOf, written}
-use Rattle.program.specs.Rules.{Test, onVariable, onCondition, tested, branch, Block, thenBlock, elseBlock, loopBlock, at, Kind, kind, sets, signs, releases, raises, variableTests, conditionTests, loops, elses, ends, others, restZero, widest, eachWithin, answer, start}
+use Rattle.program.specs.Rules.{Test, onVariable, onCondition, tested, branch, Block, thenBlock, elseBlock, loopBlock, at, Kind, kind, sets, signs, releases, raises, variableTests, conditionTests, loops, elses, ends, others, restZero, widest, answer, start}
 use Rattle.program.specs.Checks.{setFields, threeFields, raiseFields, variableTestFields, conditionTestFields, markFields}
 use Rattle.program.specs.Valid.{Nested, NumbersFit}
 use Rattle.program.specs.Acceptance.{UsableSheet}
@@ -51,33 +51,45 @@ Spelled l others = Unit {0}
 
 spelled : (l : ℕ) → Spelled l (kind l)
 spelled l = elim (cases-eq l 83) [
-      | inl e ↦ subst (Spelled l) (sym (steps.kind-set l e)) e
-      | inr n83 ↦ elim (cases-eq l 43) [
-      | inl e ↦ subst (Spelled l) (sym (steps.kind-sign plus l e)) e
-      | inr n43 ↦ elim (cases-eq l 45) [
+  | inl e ↦ subst (Spelled l) (sym (steps.kind-set l e)) e
+  | inr n83 ↦ elim (cases-eq l 43) [
+    | inl e ↦ subst (Spelled l) (sym (steps.kind-sign plus l e)) e
+    | inr n43 ↦ elim (cases-eq l 45) [
       | inl e ↦ subst (Spelled l) (sym (steps.kind-sign minus l e)) e
       | inr n45 ↦ elim (cases-eq l 42) [
-      | inl e ↦ subst (Spelled l) (sym (steps.kind-sign times l e)) e
-      | inr n42 ↦ elim (cases-eq l 60) [
-      | inl e ↦ subst (Spelled l) (sym (steps.kind-sign less l e)) e
-      | inr n60 ↦ elim (cases-eq l 61) [
-      | inl e ↦ subst (Spelled l) (sym (steps.kind-sign equal l e)) e
-      | inr n61 ↦ elim (cases-eq l 68) [
-      | inl e ↦ subst (Spelled l) (sym (steps.kind-release l e)) e
-      | inr n68 ↦ elim (cases-eq l 85) [
-      | inl e ↦ subst (Spelled l) (sym (steps.kind-raise l e)) e
-      | inr n85 ↦ elim (cases-eq l 73) [
-      | inl e ↦ subst (Spelled l) (sym (steps.kind-variable-test l e)) e
-      | inr n73 ↦ elim (cases-eq l 81) [
-      | inl e ↦ subst (Spelled l) (sym (steps.kind-condition-test l e)) e
-      | inr n81 ↦ elim (cases-eq l 87) [
-      | inl e ↦ subst (Spelled l) (sym (steps.kind-loop l e)) e
-      | inr n87 ↦ elim (cases-eq l 74) [
-      | inl e ↦ subst (Spelled l) (sym (steps.kind-else l e)) e
-      | inr n74 ↦ elim (cases-eq l 75) [
-      | inl e ↦ subst (Spelled l) (sym (steps.kind-end l e)) e
-      | inr n75 ↦ subst (Spelled l) (sym (steps.kind-other l n83 (not-sign n43 n45 n42 n60 n61) n68 n85 n73 n81 n87 n74 n75)) tt
-      ] ] ] ] ] ] ] ] ] ] ] ] ]
+        | inl e ↦ subst (Spelled l) (sym (steps.kind-sign times l e)) e
+        | inr n42 ↦ elim (cases-eq l 60) [
+          | inl e ↦ subst (Spelled l) (sym (steps.kind-sign less l e)) e
+          | inr n60 ↦ elim (cases-eq l 61) [
+            | inl e ↦ subst (Spelled l) (sym (steps.kind-sign equal l e)) e
+            | inr n61 ↦ elim (cases-eq l 68) [
+              | inl e ↦ subst (Spelled l) (sym (steps.kind-release l e)) e
+              | inr n68 ↦ elim (cases-eq l 85) [
+                | inl e ↦ subst (Spelled l) (sym (steps.kind-raise l e)) e
+                | inr n85 ↦ elim (cases-eq l 73) [
+                  | inl e ↦ subst (Spelled l) (sym (steps.kind-variable-test l e)) e
+                  | inr n73 ↦ elim (cases-eq l 81) [
+                    | inl e ↦ subst (Spelled l) (sym (steps.kind-condition-test l e)) e
+                    | inr n81 ↦ elim (cases-eq l 87) [
+                      | inl e ↦ subst (Spelled l) (sym (steps.kind-loop l e)) e
+                      | inr n87 ↦ elim (cases-eq l 74) [
+                        | inl e ↦ subst (Spelled l) (sym (steps.kind-else l e)) e
+                        | inr n74 ↦ elim (cases-eq l 75) [
+                          | inl e ↦ subst (Spelled l) (sym (steps.kind-end l e)) e
+                          | inr n75 ↦ subst (Spelled l) (sym (steps.kind-other l n83 (not-sign n43 n45 n42 n60 n61) n68 n85 n73 n81 n87 n74 n75)) tt
+                        ]
+                      ]
+                    ]
+                  ]
+                ]
+              ]
+            ]
+          ]
+        ]
+      ]
+    ]
+  ]
+]
   where
     not-sign : (l ≡ 43 → ⊥) → (l ≡ 45 → ⊥) → (l ≡ 42 → ⊥) → (l ≡ 60 → ⊥) → (l ≡ 61 → ⊥) → (s : Sign) → l ≡ letterOf s → ⊥
     not-sign a b c d e plus = a
@@ -318,12 +330,12 @@ module _ {C : Lattice} (W : Lawful C) (sh : Sheet) (U : UsableSheet C sh) (F : T
         let has = t .0 .1 .0 in
         after blocks pc (length blocks + 1) commands c r rs x f (λ g. ap (λ y. y ∷ []) (sym (set-is r e (t .0 .0) (fit g))))
         (next (place + 1) blocks pc (λ k. commands (c ⨾ k)) x d
-          (longer pc (length blocks + 1) commands c f record {
-            typed = (has, flows-within W sh U pc p d (U .sound .variables (r .a) has) (u .0));
-            nested = tt;
-            numbers = λ g. sfits-toZ (record { fits = fit g });
-          })
-          st (u .1))
+        (longer pc (length blocks + 1) commands c f record {
+          typed = (has, flows-within W sh U pc p d (U .sound .variables (r .a) has) (u .0));
+          nested = tt;
+          numbers = λ g. sfits-toZ (record { fits = fit g });
+        })
+        st (u .1))
 
     read-sign : (s : Sign) → r .letter ≡ letterOf s → Reads (r ∷ rs)
     unfolding written
@@ -341,7 +353,7 @@ module _ {C : Lattice} (W : Lawful C) (sh : Sheet) (U : UsableSheet C sh) (F : T
         let flow = two-read W sh U (r .b) (r .c) pc p (flows-within W sh U reads p dr (U .sound .variables (r .a) hasA) (u .0)) in
         after blocks pc (length blocks + 1) commands c r rs x f (λ g. ap (λ y. y ∷ []) (sym (three-is r (letterOf s) e (t .0 .0))))
         (next (place + 1) blocks pc (λ k. commands (c ⨾ k)) x d
-          (longer pc (length blocks + 1) commands c f record { typed = (hasA, hasB, hasC, flow .0, flow .1, flow .2); nested = tt; numbers = λ g. tt }) st (u .1))
+        (longer pc (length blocks + 1) commands c f record { typed = (hasA, hasB, hasC, flow .0, flow .1, flow .2); nested = tt; numbers = λ g. tt }) st (u .1))
 
     read-release : r .letter ≡ 68 → Reads (r ∷ rs)
     unfolding written
@@ -360,13 +372,19 @@ module _ {C : Lattice} (W : Lawful C) (sh : Sheet) (U : UsableSheet C sh) (F : T
         let knownA = U .sound .variables (r .a) hasA in
         after blocks pc (length blocks + 1) commands c r rs x f (λ g. ap (λ y. y ∷ []) (sym (three-is r 68 e (t .0 .0))))
         (next (place + 1) blocks pc (λ k. commands (c ⨾ k)) x d
-          (longer pc (length blocks + 1) commands c f record {
-            typed = (hasA, hasB, hasC, flows-within W sh U under p (permit-declared W sh U (r .c) pc hasC d) knownA (u .0),
-                flows-sound W (permit .to) p (known .1) knownA (w .0 .0), flows-sound W (policyOf sh (r .b)) (permit .from) (U .sound .variables (r .b) hasB) (known .0) (w .0 .1 .0));
-            nested = tt;
-            numbers = λ g. tt;
-          })
-          st (w .1))
+        (longer pc (length blocks + 1) commands c f record {
+          typed = (
+            hasA,
+            hasB,
+            hasC,
+            flows-within W sh U under p (permit-declared W sh U (r .c) pc hasC d) knownA (u .0),
+            flows-sound W (permit .to) p (known .1) knownA (w .0 .0),
+            flows-sound W (policyOf sh (r .b)) (permit .from) (U .sound .variables (r .b) hasB) (known .0) (w .0 .1 .0),
+          );
+          nested = tt;
+          numbers = λ g. tt;
+        })
+        st (w .1))
 
     read-raise : r .letter ≡ 85 → Reads (r ∷ rs)
     unfolding written
@@ -378,7 +396,7 @@ module _ {C : Lattice} (W : Lawful C) (sh : Sheet) (U : UsableSheet C sh) (F : T
         let has = t .0 .1 .0 in
         after blocks pc (length blocks + 1) commands c r rs x f (λ g. ap (λ y. y ∷ []) (sym (first-is r 85 e (t .0 .0))))
         (next (place + 1) blocks pc (λ k. commands (c ⨾ k)) x d
-          (longer pc (length blocks + 1) commands c f record { typed = (has, flows-within W sh U pc p d (U .sound .conditions (r .a) has) (u .0)); nested = tt; numbers = λ g. tt }) st (u .1))
+        (longer pc (length blocks + 1) commands c f record { typed = (has, flows-within W sh U pc p d (U .sound .conditions (r .a) has) (u .0)); nested = tt; numbers = λ g. tt }) st (u .1))
 
     read-variable-test : r .letter ≡ 73 → Reads (r ∷ rs)
     unfolding testRecord
@@ -388,7 +406,7 @@ module _ {C : Lattice} (W : Lawful C) (sh : Sheet) (U : UsableSheet C sh) (F : T
         let within = underVariable (r .b) pc in
         opens-test (onVariable (r .b)) blocks pc commands r rs x (second-is r 73 e (t .0 .0))
         (next (place + 1) (thenBlock (onVariable (r .b)) pc commands ∷ blocks) within (λ k. k) x (declared-variable sh (r .b) pc has d) (nothing within (suc (length blocks) + 1))
-          (record { declared = d; front = f; depth = leb-true (length blocks + 1) 8 (t .0 .1 .1 .0) }, has, refl, st) (t .1))
+        (record { declared = d; front = f; depth = leb-true (length blocks + 1) 8 (t .0 .1 .1 .0) }, has, refl, st) (t .1))
 
     read-condition-test : r .letter ≡ 81 → Reads (r ∷ rs)
     unfolding testRecord
@@ -398,7 +416,7 @@ module _ {C : Lattice} (W : Lawful C) (sh : Sheet) (U : UsableSheet C sh) (F : T
         let within = underCondition (r .a) pc in
         opens-test (onCondition (r .a)) blocks pc commands r rs x (first-is r 81 e (t .0 .0))
         (next (place + 1) (thenBlock (onCondition (r .a)) pc commands ∷ blocks) within (λ k. k) x (declared-condition sh (r .a) pc has d) (nothing within (suc (length blocks) + 1))
-          (record { declared = d; front = f; depth = leb-true (length blocks + 1) 8 (t .0 .1 .1 .0) }, has, refl, st) (t .1))
+        (record { declared = d; front = f; depth = leb-true (length blocks + 1) 8 (t .0 .1 .1 .0) }, has, refl, st) (t .1))
 
     read-loop : r .letter ≡ 87 → Reads (r ∷ rs)
     read-loop e place blocks pc commands x d f st h =
@@ -409,7 +427,7 @@ module _ {C : Lattice} (W : Lawful C) (sh : Sheet) (U : UsableSheet C sh) (F : T
         let dw = declared-variable sh (r .b) pc has d in
         opens-loop (r .b) blocks pc commands r rs x (second-is r 87 e (t .0 .0))
         (next (place + 1) (loopBlock (r .b) pc commands ∷ blocks) within (λ k. k) x dw (nothing within (suc (length blocks) + 1))
-          (record { declared = d; front = f; depth = leb-true (length blocks + 1) 8 (t .0 .1 .1 .0) }, has, flows-within W sh U within (leaf (C .lowest)) dw (W .lowest-known) (u .0), refl, st) (u .1))
+        (record { declared = d; front = f; depth = leb-true (length blocks + 1) 8 (t .0 .1 .1 .0) }, has, flows-within W sh U within (leaf (C .lowest)) dw (W .lowest-known) (u .0), refl, st) (u .1))
 
     read-else : r .letter ≡ 74 → Reads (r ∷ rs)
     read-else e place [] pc commands x d f st h = refused-accepted (refusal 12 place 0) x (sym (steps.misplaced C sh place [] pc commands r rs elses (steps.kind-else (r .letter) e) refl) ∙ h)
@@ -422,7 +440,7 @@ module _ {C : Lattice} (W : Lawful C) (sh : Sheet) (U : UsableSheet C sh) (F : T
         let took = took-all (markFields r place) _ x (sym (steps.else-step C sh place pc commands around before bs r rs t e) ∙ h) in
         turns t bs around before commands r rs x (mark-is r 74 e (took .0 .0))
         (next (place + 1) (elseBlock t (commands skip) around before ∷ bs) (tested t around) (λ k. k) x (declared-tested sh t around (st .1) (o .declared)) (nothing (tested t around) (suc (length bs) + 1))
-          (o, st .1, refl, inner pc (tested t around) (length bs) commands (st .2) f, st .3) (took .1))
+        (o, st .1, refl, inner pc (tested t around) (length bs) commands (st .2) f, st .3) (took .1))
 
     read-end-mark : r .letter ≡ 75 → Reads (r ∷ rs)
     read-end-mark e place [] pc commands x d f st h = refused-accepted (refusal 12 place 0) x (sym (steps.misplaced C sh place [] pc commands r rs ends (steps.kind-end (r .letter) e) refl) ∙ h)
@@ -442,7 +460,7 @@ module _ {C : Lattice} (W : Lawful C) (sh : Sheet) (U : UsableSheet C sh) (F : T
         let w = inner pc (underVariable v around) (length bs) commands (st .3) f in
         closes-loop v bs around (length bs + 1) before commands r rs x (o .front) (mark-is r 75 e (took .0 .0))
         (next (place + 1) bs around (λ k. before (b ⨾ k)) x (o .declared)
-          (longer around (length bs + 1) before b (o .front) record { typed = (st .1, st .2, w .typed); nested = (o .depth, w .nested); numbers = w .numbers }) (st .4) (took .1))
+        (longer around (length bs + 1) before b (o .front) record { typed = (st .1, st .2, w .typed); nested = (o .depth, w .nested); numbers = w .numbers }) (st .4) (took .1))
 
     read-record : (k : Kind) → kind (r .letter) ≡ k → Spelled (r .letter) k → Reads (r ∷ rs)
     read-record sets e l = read-set l

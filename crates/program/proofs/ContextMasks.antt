@@ -1,7 +1,6 @@
 -- Contexts as masks, and the first variable or condition of a context that may not reach the target. Assumes nothing.
 use mathlib.Core.Path.{_≡_, refl, sym, ap, _∙_}
 use mathlib.Core.Bool.{Bool, true, false, not, _||_}
-use mathlib.Core.List.{List, _++_}
 use Prim.Native.Nat.{ℕ, _+_, _*_, _^_, _%_, _<_}
 use native.Mathlib.Omega.{arith}
 use lib.Bits.{bitOr}
@@ -9,7 +8,6 @@ use lib.Dec.{eqb}
 use Rattle.std.proofs.shelf.Bits.{one-shl}
 use Rattle.records.specs.Rules.{Reading, Rule, rule, eachFrom, first, refusedBy}
 use Rattle.records.proofs.Firsts.{first-append, each-holds, each-refuses, implies}
-use Rattle.policy.specs.Policy.{add}
 use Rattle.policy.specs.Masks.{bit, members}
 use Rattle.policy.specs.Rows.{including}
 use Rattle.policy.proofs.Masks.{bit-or, bit-pow, bit-zero, bit-including}

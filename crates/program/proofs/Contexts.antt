@@ -1,22 +1,20 @@
 -- Contexts whose variables and conditions are declared: the rules on what reaches a target hold just where the context flows to it.
 use mathlib.Core.Path.{_≡_, refl, sym, ap, _∙_, subst}
-use mathlib.Core.Bool.{Bool, true, false, false≢true, not, _||_}
-use mathlib.Core.List.{List, _++_}
+use mathlib.Core.Bool.{true, false≢true, not, _||_}
 use mathlib.Core.Logic.{inl, inr}
-use Prim.Native.Nat.{ℕ, _+_, _≤_, _<_}
+use Prim.Native.Nat.{ℕ, _+_, _<_}
 use native.Mathlib.Omega.{arith}
 use lib.Dec.{eqb}
 use lib.ListN.{length}
 use Rattle.std.proofs.shelf.Tests.{or-cases, or-left, or-right, eq-eqb, eqb-true, ltb-true}
-use Rattle.lattice.specs.Lattice.{Lattice, Lawful, Below}
+use Rattle.lattice.specs.Lattice.{Lattice, Lawful}
 use Rattle.records.specs.Rules.{Reading, accepted, Rule, rule, eachFrom, first}
 use Rattle.records.proofs.Firsts.{first-append, each-holds, each-same, took-each, implies, implied}
-use Rattle.policy.specs.Policy.{Set, add, Policy, leaf, presentLevel, KnownLevels, FlowsTo}
+use Rattle.policy.specs.Policy.{Set, add, Policy, KnownLevels, FlowsTo}
 use Rattle.policy.specs.Masks.{members}
-use Rattle.sheet.specs.Sheet.{Sheet, policyOf, levelOf, permitAt}
-use Rattle.machine.specs.SoundSheet.{SoundSheet, HasVariable, HasCondition, HasPermit}
+use Rattle.sheet.specs.Sheet.{Sheet, policyOf, permitAt}
+use Rattle.machine.specs.SoundSheet.{HasVariable, HasCondition, HasPermit}
 use Rattle.machine.specs.Typing.{Context, outermost, underVariable, underCondition, underConditions, ContextFlowsTo}
-use Rattle.program.specs.Deciding.{flows}
 use Rattle.program.specs.Rules.{Test, onVariable, onCondition, tested, widest, eachWithin}
 use Rattle.program.specs.Acceptance.{UsableSheet}
 use Rattle.program.proofs.Deciding.{flows-sound, flows-complete}
@@ -69,11 +67,13 @@ within-took number place pc wide a x h =
     let fv : ℕ → Rule = λ v. rule number place v (not (pc .variables v) || wide .variables v) in
     let fc : ℕ → Rule = λ c. rule number place (256 + c) (not (pc .conditions c) || wide .conditions c) in
     let t = took-each 0 64 fv (first (eachFrom 0 16 fc) a) x (sym (first-append (eachFrom 0 64 fv) (eachFrom 0 16 fc) a) ∙ h) in
-    let u = took-each 0 16 fc a x (t .1) in
-    (record {
-      variables = λ v l. implied (pc .variables v) (wide .variables v) (t .0 v (omega arith) l);
-      conditions = λ c l. implied (pc .conditions c) (wide .conditions c) (u .0 c (omega arith) l);
-    }, u .1)
+    let u = took-each 0 16 fc a x (t .1) in (
+      record {
+        variables = λ v l. implied (pc .variables v) (wide .variables v) (t .0 v (omega arith) l);
+        conditions = λ c l. implied (pc .conditions c) (wide .conditions c) (u .0 c (omega arith) l);
+      },
+      u .1,
+    )
 
 -- two contexts that agree on the numbers that there may be
 pub record Alike (pc pc′ : Context) : Type 0 where
@@ -118,10 +118,11 @@ module _ {C : Lattice} (W : Lawful C) (sh : Sheet) (U : UsableSheet C sh) where
 
   pub two-read : (b c : ℕ) (pc : Context) (p : Policy) → ContextFlowsTo C sh (underVariable b (underVariable c pc)) p
       → ContextFlowsTo C sh pc p × FlowsTo C (policyOf sh b) p × FlowsTo C (policyOf sh c) p
-  two-read b c pc p f =
-      (record { variables = λ v h. f .variables v (or-right (eqb v b) _ (or-right (eqb v c) _ h)); conditions = f .conditions },
-       f .variables b (or-left (eqb b b) _ (eq-eqb b b refl)),
-       f .variables c (or-right (eqb c b) _ (or-left (eqb c c) _ (eq-eqb c c refl))))
+  two-read b c pc p f = (
+    record { variables = λ v h. f .variables v (or-right (eqb v b) _ (or-right (eqb v c) _ h)); conditions = f .conditions },
+    f .variables b (or-left (eqb b b) _ (eq-eqb b b refl)),
+    f .variables c (or-right (eqb c b) _ (or-left (eqb c c) _ (eq-eqb c c refl))),
+  )
 
   pub permit-declared : (p : ℕ) (pc : Context) → HasPermit sh p → Declared sh pc → Declared sh (underConditions (members (permitAt sh p .conditions)) pc)
   permit-declared p pc h d = declared-conditions sh (members (permitAt sh p .conditions)) pc (λ c e. U .sound .named p c h e) d

@@ -1,11 +1,11 @@
 -- The test of flowing is right both ways. Assumes nothing.
-use mathlib.Core.Bool.{Bool, true, false, false≢true, cond, _&&_, _||_}
+use mathlib.Core.Bool.{Bool, true, false, false≢true, cond}
 use mathlib.Core.Logic.{inl, inr}
 use mathlib.Core.Path.{_≡_, refl, ap, _∙_}
 use Prim.Native.Nat.{ℕ}
 use lib.Dec.{eqb}
 use Rattle.std.proofs.shelf.Tests.{or-cases, or-left, or-right, eq-eqb, eqb-true, and-parts, and-from}
-use Rattle.lattice.specs.Lattice.{Lattice, Lawful, Known, Below}
+use Rattle.lattice.specs.Lattice.{Lattice, Lawful, Below}
 use Rattle.policy.specs.Policy.{Set, none, add, Policy, leaf, erase, levelUnder, KnownLevels, FlowsTo}
 use Rattle.policy.proofs.Orders.{below-trans}
 use Rattle.policy.proofs.RowLevels.{known-under}

@@ -4,7 +4,9 @@ pub mod Steps
 pub mod Contexts
 pub mod Accepted
 pub mod Accepting
+pub mod Normal
 pub mod Acceptance
 pub mod ContextMasks
 pub mod Usable
 pub mod Readers
+pub mod Placing

@@ -1,13 +1,13 @@
 -- The readers of a box are sound, and of bytes they say what the rules say. Assumes nothing.
-use mathlib.Core.Path.{_≡_, refl, _∙_}
-use mathlib.Core.Bool.{true, _&&_}
+use mathlib.Core.Path.{_≡_, refl}
+use mathlib.Core.Bool.{true}
 use mathlib.Core.List.{List, [], _∷_}
 use Prim.Native.Nat.{ℕ}
 use lib.Dec.{ltb}
 use Rattle.std.proofs.shelf.Tests.{and-parts, and-from, ltb-true, lt-ltb}
 use Rattle.lattice.specs.Lattice.{Lattice}
 use Rattle.records.specs.Records.{Each, Byte}
-use Rattle.records.specs.Rules.{accepted, rule, first}
+use Rattle.records.specs.Rules.{accepted, rule}
 use Rattle.records.proofs.Firsts.{took-all, first-holds}
 use Rattle.sheet.specs.Sheet.{Sheet}
 use Rattle.sheet.specs.Rules.{sheetIn}

@@ -83,50 +83,50 @@ module _ (C : Lattice) (sh : Sheet) (place : ℕ) (blocks : List Block) (pc : Co
 
     pub set-step : r .letter ≡ 83 → answer C sh s (r ∷ rs)
         ≡ first (setFields r place (length (sh .variables)))
-          (first (eachWithin 16 place pc (widest C sh (policyOf sh (r .a))))
-          (answer C sh (at (place + 1) blocks pc (λ rest. commands (set (r .a) (toZ w32 (r .n)) ⨾ rest))) rs))
+        (first (eachWithin 16 place pc (widest C sh (policyOf sh (r .a))))
+        (answer C sh (at (place + 1) blocks pc (λ rest. commands (set (r .a) (toZ w32 (r .n)) ⨾ rest))) rs))
     set-step e = step sets (kind-set (r .letter) e) ∙ ap (first (setFields r place (length (sh .variables)))) (first-append (eachWithin 16 place pc (widest C sh (policyOf sh (r .a)))) [] _)
 
     pub sign-step : (sign : Sign) → r .letter ≡ letterOf sign → answer C sh s (r ∷ rs)
         ≡ first (threeFields r place (length (sh .variables)) (length (sh .variables)))
-          (first (eachWithin 16 place (underVariable (r .b) (underVariable (r .c) pc)) (widest C sh (policyOf sh (r .a))))
-          (answer C sh (at (place + 1) blocks pc (λ rest. commands (combine sign (r .a) (r .b) (r .c) ⨾ rest))) rs))
+        (first (eachWithin 16 place (underVariable (r .b) (underVariable (r .c) pc)) (widest C sh (policyOf sh (r .a))))
+        (answer C sh (at (place + 1) blocks pc (λ rest. commands (combine sign (r .a) (r .b) (r .c) ⨾ rest))) rs))
     sign-step sign e =
         step (signs sign) (kind-sign sign (r .letter) e)
         ∙ ap (first (threeFields r place (length (sh .variables)) (length (sh .variables)))) (first-append (eachWithin 16 place (underVariable (r .b) (underVariable (r .c) pc)) (widest C sh (policyOf sh (r .a)))) [] _)
 
     pub release-step : r .letter ≡ 68 → answer C sh s (r ∷ rs)
         ≡ first (threeFields r place (length (sh .variables)) (length (sh .permits)))
-          (first (eachWithin 16 place (underConditions (members (permitAt sh (r .c) .conditions)) pc) (widest C sh (policyOf sh (r .a))))
-          (first (rule 16 place (512 + r .c) (flows C (permitAt sh (r .c) .to) (policyOf sh (r .a))) ∷ rule 18 place 0 (flows C (policyOf sh (r .b)) (permitAt sh (r .c) .from)) ∷ [])
-          (answer C sh (at (place + 1) blocks pc (λ rest. commands (release (r .a) (r .b) (r .c) ⨾ rest))) rs)))
+        (first (eachWithin 16 place (underConditions (members (permitAt sh (r .c) .conditions)) pc) (widest C sh (policyOf sh (r .a))))
+        (first (rule 16 place (512 + r .c) (flows C (permitAt sh (r .c) .to) (policyOf sh (r .a))) ∷ rule 18 place 0 (flows C (policyOf sh (r .b)) (permitAt sh (r .c) .from)) ∷ [])
+        (answer C sh (at (place + 1) blocks pc (λ rest. commands (release (r .a) (r .b) (r .c) ⨾ rest))) rs)))
     release-step e =
         let within = eachWithin 16 place (underConditions (members (permitAt sh (r .c) .conditions)) pc) (widest C sh (policyOf sh (r .a))) in
         let sixteen = rule 16 place (512 + r .c) (flows C (permitAt sh (r .c) .to) (policyOf sh (r .a))) ∷ [] in
         step releases (kind-release (r .letter) e)
         ∙ ap (first (threeFields r place (length (sh .variables)) (length (sh .permits))))
-          (first-append (within ++ sixteen) (rule 18 place 0 (flows C (policyOf sh (r .b)) (permitAt sh (r .c) .from)) ∷ []) _ ∙ first-append within sixteen _)
+        (first-append (within ++ sixteen) (rule 18 place 0 (flows C (policyOf sh (r .b)) (permitAt sh (r .c) .from)) ∷ []) _ ∙ first-append within sixteen _)
 
     pub raise-step : r .letter ≡ 85 → answer C sh s (r ∷ rs)
         ≡ first (raiseFields r place (length (sh .conditions)))
-          (first (eachWithin 16 place pc (widest C sh (leaf (levelOf sh (r .a)))))
-          (answer C sh (at (place + 1) blocks pc (λ rest. commands (raise (r .a) ⨾ rest))) rs))
+        (first (eachWithin 16 place pc (widest C sh (leaf (levelOf sh (r .a)))))
+        (answer C sh (at (place + 1) blocks pc (λ rest. commands (raise (r .a) ⨾ rest))) rs))
     raise-step e = step raises (kind-raise (r .letter) e) ∙ ap (first (raiseFields r place (length (sh .conditions)))) (first-append (eachWithin 16 place pc (widest C sh (leaf (levelOf sh (r .a))))) [] _)
 
     pub variable-test-step : r .letter ≡ 73 → answer C sh s (r ∷ rs)
         ≡ first (variableTestFields r place (length (sh .variables)) (length blocks))
-          (answer C sh (at (place + 1) (thenBlock (onVariable (r .b)) pc commands ∷ blocks) (underVariable (r .b) pc) (λ rest. rest)) rs)
+        (answer C sh (at (place + 1) (thenBlock (onVariable (r .b)) pc commands ∷ blocks) (underVariable (r .b) pc) (λ rest. rest)) rs)
     variable-test-step e = step variableTests (kind-variable-test (r .letter) e)
 
     pub condition-test-step : r .letter ≡ 81 → answer C sh s (r ∷ rs)
         ≡ first (conditionTestFields r place (length (sh .conditions)) (length blocks))
-          (answer C sh (at (place + 1) (thenBlock (onCondition (r .a)) pc commands ∷ blocks) (underCondition (r .a) pc) (λ rest. rest)) rs)
+        (answer C sh (at (place + 1) (thenBlock (onCondition (r .a)) pc commands ∷ blocks) (underCondition (r .a) pc) (λ rest. rest)) rs)
     condition-test-step e = step conditionTests (kind-condition-test (r .letter) e)
 
     pub loop-step : r .letter ≡ 87 → answer C sh s (r ∷ rs)
         ≡ first (variableTestFields r place (length (sh .variables)) (length blocks))
-          (first (eachWithin 17 place (underVariable (r .b) pc) (widest C sh (leaf (C .lowest))))
-          (answer C sh (at (place + 1) (loopBlock (r .b) pc commands ∷ blocks) (underVariable (r .b) pc) (λ rest. rest)) rs))
+        (first (eachWithin 17 place (underVariable (r .b) pc) (widest C sh (leaf (C .lowest))))
+        (answer C sh (at (place + 1) (loopBlock (r .b) pc commands ∷ blocks) (underVariable (r .b) pc) (λ rest. rest)) rs))
     loop-step e = step loops (kind-loop (r .letter) e)
 
 module _ (C : Lattice) (sh : Sheet) (place : ℕ) (pc : Context) (commands : Command → Command) (around : Context) (before : Command → Command) (blocks : List Block) (r : Record) (rs : List Record) where

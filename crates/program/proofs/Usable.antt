@@ -3,14 +3,13 @@ use mathlib.Core.Path.{_≡_}
 use mathlib.Core.List.{List, [], _∷_}
 use Prim.Native.Nat.{ℕ, zero, suc, _+_, _<_}
 use native.Mathlib.Omega.{arith}
-use lib.Dec.{ltb}
 use lib.ListN.{length, getD}
 use Rattle.std.proofs.shelf.Tests.{ltb-true, lt-ltb}
 use Rattle.lattice.specs.Lattice.{Lattice, Lawful}
 use Rattle.records.specs.Records.{Each, Byte}
 use Rattle.records.specs.Rules.{accepted}
 use Rattle.policy.specs.Policy.{Policy, leaf, erase, KnownLevels}
-use Rattle.sheet.specs.Sheet.{Sheet, Variable, Permit, levelOf, variableAt, permitAt}
+use Rattle.sheet.specs.Sheet.{Sheet, variableAt, permitAt}
 use Rattle.sheet.specs.Valid.{Level, WellFormed, ValidVariable, ValidPermit, Valid}
 use Rattle.sheet.specs.Rules.{sheetIn}
 use Rattle.sheet.proofs.Acceptance.{only}

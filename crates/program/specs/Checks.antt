@@ -5,10 +5,9 @@ use Prim.Native.Nat.{ℕ, _+_}
 use lib.Dec.{leb, ltb}
 use Rattle.records.specs.declared.Record.{Record}
 use Rattle.records.specs.Rules.{Rule, rule}
-use Rattle.machine.specs.Command.{Sign}
 use Rattle.machine.specs.Typing.{Context}
 use Rattle.policy.specs.Masks.{members}
-use Rattle.program.specs.Rules.{restZero, sets, signs, releases, raises, variableTests, conditionTests, loops, elses, ends}
+use Rattle.program.specs.Rules.{restZero, sets, releases, raises, variableTests, conditionTests, ends}
 
 abbrev pub setFields : Record → ℕ → ℕ → List Rule
 setFields r place variables = rule 13 place 0 (restZero r sets) ∷ rule 14 place (r .a) (ltb (r .a) variables) ∷ []

@@ -1,7 +1,6 @@
 -- A test of whether one policy flows to another. A leaf counts under a set just when the set has every condition on whose later
 -- side it lies, so it is enough to ask once for each leaf, under those conditions alone.
 use mathlib.Core.Bool.{Bool, _&&_}
-use mathlib.Core.Path.{_≡_}
 use Rattle.std.specs.Orderings.{Decides}
 use Rattle.lattice.specs.Lattice.{Lattice}
 use Rattle.policy.specs.Policy.{Set, none, add, Policy, leaf, erase, levelUnder, KnownLevels, FlowsTo}

@@ -12,17 +12,14 @@ ghost use Rattle.program.specs.Readers.{readers};
 pub fn programs_are_accepted_exactly()
     ensures exactly { λ _. ⌜ ((C : Lattice) → Lawful C → (sh : Sheet) → UsableSheet C sh → AcceptsExactlyTheWellTyped C sh) ⌝ }
     ensures decided { λ _. ⌜ ((C : Lattice) → Lawful C → DecidesFlow C) ⌝ }
-{
-}
+{}
 
 /// What the promises ask of a box's readers: accepted sheets are sound, and programs accepted on them are well-typed.
 pub fn readers_are_sound()
     ensures { λ _. ⌜ SoundReaders readers ⌝ }
-{
-}
+{}
 
 /// The worked examples of programs, accepted and refused.
 pub fn program_examples_hold()
     ensures { λ _. ⌜ ProgramExamples ⌝ }
-{
-}
+{}

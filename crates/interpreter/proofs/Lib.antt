@@ -1,0 +1,4 @@
+pub mod Masks
+pub mod Memories
+pub mod Permits
+pub mod Flat

@@ -1,0 +1,20 @@
+-- The commands without a block, by their instruction.
+use mathlib.Core.Bool.{Bool, cond, _||_}
+use Prim.Native.Nat.{ℕ}
+use lib.Dec.{eqb}
+use Rattle.machine.specs.Command.{Sign, plus, minus, times, less, equal, Command, skip, set, combine, release, raise}
+use Rattle.program.specs.declared.kept.Instruction.{Instruction}
+
+abbrev pub isSign : ℕ → Bool
+isSign l = eqb l 43 || (eqb l 45 || (eqb l 42 || (eqb l 60 || eqb l 61)))
+
+abbrev pub signOf : ℕ → Sign
+signOf l = cond (eqb l 43) plus (cond (eqb l 45) minus (cond (eqb l 42) times (cond (eqb l 60) less equal)))
+
+-- S, the signs, D and U; any other letter says nothing
+abbrev pub plain : Instruction → Command
+plain i =
+    cond (eqb (i .letter) 83) (set (i .a) (i .n))
+    (cond (isSign (i .letter)) (combine (signOf (i .letter)) (i .a) (i .b) (i .c))
+    (cond (eqb (i .letter) 68) (release (i .a) (i .b) (i .c))
+    (cond (eqb (i .letter) 85) (raise (i .a)) skip)))
