@@ -88,11 +88,14 @@ readers = record { joined = refl; fewer-above = refl; others-not = refl }
 depth : TreesAreFourDeep
 unfolding sheetIn answer records bytes
 depth = record {
-  leaf-at-four = (record {
-    conditions = 0 ∷ [];
-    variables = record { policy = erase 0 (erase 0 (erase 0 (leaf 0) (leaf 0)) (leaf 0)) (leaf 0); fed = false } ∷ [];
-    permits = [];
-  }, refl);
+  leaf-at-four = (
+    record {
+      conditions = 0 ∷ [];
+      variables = record { policy = erase 0 (erase 0 (erase 0 (leaf 0) (leaf 0)) (leaf 0)) (leaf 0); fed = false } ∷ [];
+      permits = [];
+    },
+    refl,
+  );
   node-at-four = refl;
   leaf-at-five = refl;
 }

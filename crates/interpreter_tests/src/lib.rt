@@ -79,18 +79,20 @@ mod tests {
 
     // v0 = 3; while v0 { v1 = 2; while v1 { v2 = v2 + v3; v1 = v1 - v3 }; v0 = v0 - v3 }, with v3 = 1.
     fn loop_in_loop() -> Program {
-        program(&[
-            set(3, 1),
-            set(0, 3),
-            line(b'W', 0, 0, 7),
-            set(1, 2),
-            line(b'W', 0, 1, 3),
-            line(b'+', 2, 2, 3),
-            line(b'-', 1, 1, 3),
-            line(b'K', 0, 1, 3),
-            line(b'-', 0, 0, 3),
-            line(b'K', 0, 0, 7),
-        ])
+        program(
+            &[
+                set(3, 1),
+                set(0, 3),
+                line(b'W', 0, 0, 7),
+                set(1, 2),
+                line(b'W', 0, 1, 3),
+                line(b'+', 2, 2, 3),
+                line(b'-', 1, 1, 3),
+                line(b'K', 0, 1, 3),
+                line(b'-', 0, 0, 3),
+                line(b'K', 0, 0, 7),
+            ],
+        )
     }
 
     #[test]
@@ -117,13 +119,15 @@ mod tests {
 
     #[test]
     fn a_raise_wipes_the_variable_of_its_loop() -> Result<(), Fail> {
-        let looping = program(&[
-            set(5, 7),
-            line(b'W', 0, 5, 3),
-            line(b'U', 0, 0, 0),
-            set(5, 8),
-            line(b'K', 0, 5, 3),
-        ]);
+        let looping = program(
+            &[
+                set(5, 7),
+                line(b'W', 0, 5, 3),
+                line(b'U', 0, 0, 0),
+                set(5, 8),
+                line(b'K', 0, 5, 3),
+            ],
+        );
         let mut store = SparseStore::new();
         let mut up = 2;
         let (ending, used) = pass(&looping, &masks(), &mut store, &mut up, 100);
@@ -135,7 +139,14 @@ mod tests {
 
     #[test]
     fn a_release_asks_for_all_its_conditions() -> Result<(), Fail> {
-        let releasing = program(&[set(0, 9), line(b'D', 1, 0, 0), line(b'U', 3, 0, 0), line(b'D', 2, 0, 0)]);
+        let releasing = program(
+            &[
+                set(0, 9),
+                line(b'D', 1, 0, 0),
+                line(b'U', 3, 0, 0),
+                line(b'D', 2, 0, 0),
+            ],
+        );
         let mut store = DenseStore::new();
         let mut up = 2;
         let (_, _) = pass(&releasing, &masks(), &mut store, &mut up, 0);
@@ -145,18 +156,20 @@ mod tests {
 
     #[test]
     fn blocks_are_chosen_by_variables_and_conditions() -> Result<(), Fail> {
-        let choosing = program(&[
-            line(b'I', 0, 0, 2),
-            set(1, 1),
-            line(b'J', 0, 0, 2),
-            set(1, 2),
-            line(b'K', 0, 0, 0),
-            line(b'Q', 1, 0, 2),
-            set(2, 1),
-            line(b'J', 0, 0, 2),
-            set(2, 2),
-            line(b'K', 0, 0, 0),
-        ]);
+        let choosing = program(
+            &[
+                line(b'I', 0, 0, 2),
+                set(1, 1),
+                line(b'J', 0, 0, 2),
+                set(1, 2),
+                line(b'K', 0, 0, 0),
+                line(b'Q', 1, 0, 2),
+                set(2, 1),
+                line(b'J', 0, 0, 2),
+                set(2, 2),
+                line(b'K', 0, 0, 0),
+            ],
+        );
         let mut store = DenseStore::new();
         let mut up = 2;
         let (ending, used) = pass(&choosing, &masks(), &mut store, &mut up, 0);

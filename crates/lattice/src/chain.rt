@@ -22,7 +22,11 @@ pub impl Lattice for Chain as ChainLattice {
     }
 
     fn join(&self, a: u32, b: u32) -> u32 {
-        if self.known(a) && self.known(b) { a.max(b) } else { self.highest() }
+        if self.known(a) && self.known(b) {
+            a.max(b)
+        } else {
+            self.highest()
+        }
     }
 
     fn lowest(&self) -> u32 {

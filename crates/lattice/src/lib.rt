@@ -7,7 +7,6 @@ pub use chain::Chain;
 pub use chain::ChainLattice;
 pub use reader_sets::ReaderSets;
 pub use reader_sets::ReaderSetsLattice;
-
 ghost use mathlib.Core.Path.{_≡_};
 ghost use Rattle.lattice.specs.Lattice.{Lattice, Lawful};
 

@@ -7,6 +7,7 @@ use crate::Lattice;
 pub struct ReaderSets;
 
 const EVERYBODY: u32 = 65535;
+
 const NOBODY: u32 = 0;
 
 pub impl Lattice for ReaderSets as ReaderSetsLattice {
@@ -21,7 +22,12 @@ pub impl Lattice for ReaderSets as ReaderSetsLattice {
     }
 
     fn join(&self, a: u32, b: u32) -> u32 {
-        if self.known(a) && self.known(b) { a & b } else { self.highest() }
+        let common = a & b;
+        if self.known(a) && self.known(b) {
+            common
+        } else {
+            self.highest()
+        }
     }
 
     fn lowest(&self) -> u32 {

@@ -71,8 +71,9 @@ pub each-refuses : {X : Type 0} (i k t : ℕ) (f : ℕ → Rule) (a : Reading X)
 each-refuses i zero t f a l m h e = absurd (omega arith)
 each-refuses i (suc k) t f a l m h e =
     elim (cases-eq i t) [
-      inl q ↦ subst (λ x. cond (f x .holds) (first (eachFrom (i + 1) k f) a) (refused (f x .refusal)) ≡ refused (f t .refusal)) (sym q) (cond-false (f t .holds) _ _ e)
-    | inr q ↦ cond-true (f i .holds) _ _ (h i (omega arith)) ∙ each-refuses (i + 1) k t f a (omega arith) (omega arith) h e ]
+      | inl q ↦ subst (λ x. cond (f x .holds) (first (eachFrom (i + 1) k f) a) (refused (f x .refusal)) ≡ refused (f t .refusal)) (sym q) (cond-false (f t .holds) _ _ e)
+      | inr q ↦ cond-true (f i .holds) _ _ (h i (omega arith)) ∙ each-refuses (i + 1) k t f a (omega arith) (omega arith) h e
+    ]
 
 pub each-same : {X : Type 0} (i k : ℕ) (f g : ℕ → Rule) (a : Reading X) → ((c : ℕ) → c < i + k → f c ≡ g c) → first (eachFrom i k f) a ≡ first (eachFrom i k g) a
 each-same i zero f g a h = refl

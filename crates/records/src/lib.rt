@@ -5,7 +5,6 @@ pub mod rule;
 pub use refusal::Refusal;
 pub use refusal::RefusalDebug;
 pub use refusal::RefusalPartialEq;
-
 ghost use mathlib.Core.List.{[], _∷_, _++_};
 ghost use mathlib.Core.Path.{_≡_};
 ghost use lib.ListN.{length};
@@ -28,8 +27,8 @@ pub fn next_record(input: &[u8]) -> Option<(Record, &[u8])>
     ensures { λ r. ⌜ Cases r
         (length (now (input .entry)) < 8)
         (λ p. (length (now (input .entry)) ≡ 8 + length (now (p .1)))
-            × (records (now (input .entry)) ≡ p .0 ∷ records (now (p .1)))
-            × (now (input .entry) ≡ written (p .0 ∷ []) ++ now (p .1))) ⌝ }
+        × (records (now (input .entry)) ≡ p .0 ∷ records (now (p .1)))
+        × (now (input .entry) ≡ written (p .0 ∷ []) ++ now (p .1))) ⌝ }
 {
     match input {
         [letter, a, b, c, n3, n2, n1, n0, rest @ ..] => {

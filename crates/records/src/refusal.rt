@@ -14,6 +14,10 @@ impl Refusal {
     pub fn new(number: u8, place: usize, detail: u32) -> Refusal
         ensures { λ r. ⌜ r ≡ refusal number place detail ⌝ }
     {
-        Refusal { number, place, detail }
+        Refusal {
+            number,
+            place,
+            detail,
+        }
     }
 }

@@ -4,10 +4,17 @@ pub const NO_SHEET_YET: u8 = 1;
 
 // sheets
 pub const SHEET_LENGTH: u8 = 2;
+
 pub const SHEET_LETTER: u8 = 3;
+
 pub const SHEET_FIELDS: u8 = 4;
+
 pub const NEXT_NUMBER: u8 = 5;
+
 pub const KNOWN_LEVEL: u8 = 6;
+
 pub const DECLARED_CONDITION: u8 = 7;
+
 pub const TREE_DEPTH: u8 = 8;
+
 pub const WIPERS_BELOW: u8 = 9;

@@ -39,8 +39,8 @@ module _ (C : Lattice) where
       each-append Fit (numbered condition 0 (sh .conditions)) (numbered variable 0 (sh .variables) ++ numbered permit 0 (sh .permits))
       (numbered-fit condition (Level C) (λ i l h. (h .1, tt)) 0 (sh .conditions) (v .levels))
       (each-append Fit (numbered variable 0 (sh .variables)) (numbered permit 0 (sh .permits))
-        (numbered-fit variable (ValidVariable C sh) (λ i x h. (omega arith, tree-fit n 1 (x .policy) (h .0))) 0 (sh .variables) (v .variables))
-        (numbered-fit permit (ValidPermit C sh) (λ i x h. (h .0, each-append Fit (tree (x .from)) (tree (x .to)) (tree-fit n 1 (x .from) (h .2)) (tree-fit n 1 (x .to) (h .3)))) 0 (sh .permits) (v .permits)))
+      (numbered-fit variable (ValidVariable C sh) (λ i x h. (omega arith, tree-fit n 1 (x .policy) (h .0))) 0 (sh .variables) (v .variables))
+      (numbered-fit permit (ValidPermit C sh) (λ i x h. (h .0, each-append Fit (tree (x .from)) (tree (x .to)) (tree-fit n 1 (x .from) (h .2)) (tree-fit n 1 (x .to) (h .3)))) 0 (sh .permits) (v .permits)))
 
   all : (sh : Sheet) → Valid C sh → sheetIn C (bytes (written sh)) ≡ accepted sh
   unfolding sheetIn

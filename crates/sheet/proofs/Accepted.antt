@@ -69,7 +69,7 @@ module _ (C : Lattice) where
         ∙ first-holds (rule 3 place 0 true ∷ conditionRules (conditionRecord (length before) l) place (length before) (C .known l)) _ (refl, (refl, (next-is (length before) 16 (omega arith), (e .0 .0, tt))))
         ∙ ap (λ n. answer C (closed (place + 1) (sheetOf (before ++ l ∷ []) [] [])) (numbered condition n cs ++ rest)) (sym (length-append before (l ∷ [])))
         ∙ conditions-go cs (before ++ l ∷ []) (place + 1) rest (omega (arith, length-append before (l ∷ []))) (e .1)
-          (λ n. ap (λ x. answer C (closed n (sheetOf x [] [])) rest) (append-assoc before (l ∷ []) cs) ∙ k n)
+        (λ n. ap (λ x. answer C (closed n (sheetOf x [] [])) rest) (append-assoc before (l ∷ []) cs) ∙ k n)
 
     variables-go : (vs before : List Variable) (cs : List ℕ) (place : ℕ) (rest : List Record) → length cs ≤ 16 → length before + length vs ≤ 64 → Each (ValidVariable C (sheetOf cs [] [])) vs
         → ((n : ℕ) → answer C (closed n (sheetOf cs (before ++ vs) [])) rest ≡ a)
@@ -85,7 +85,7 @@ module _ (C : Lattice) where
         ∙ each-holds 0 16 (λ c. rule 9 place c (not (wipes c (v .policy)) || C .below (levelOf (sheetOf cs before []) c) (presentLevel C (v .policy)))) _ (λ c l. implies (wipes c (v .policy)) _ (e .0 .1 c))
         ∙ ap (λ n. answer C (closed (place + 1 + length (tree (v .policy))) (sheetOf cs (before ++ v ∷ []) [])) (numbered variable n vs ++ rest)) (sym (length-append before (v ∷ [])))
         ∙ variables-go vs (before ++ v ∷ []) cs (place + 1 + length (tree (v .policy))) rest m (omega (arith, length-append before (v ∷ []))) (e .1)
-          (λ n. ap (λ x. answer C (closed n (sheetOf cs x [])) rest) (append-assoc before (v ∷ []) vs) ∙ k n)
+        (λ n. ap (λ x. answer C (closed n (sheetOf cs x [])) rest) (append-assoc before (v ∷ []) vs) ∙ k n)
 
     permits-go : (ps before : List Permit) (cs : List ℕ) (vs : List Variable) (place : ℕ) (rest : List Record) → length before + length ps ≤ 8 → Each (ValidPermit C (sheetOf cs [] [])) ps
         → ((n : ℕ) → answer C (closed n (sheetOf cs vs (before ++ ps))) rest ≡ a)
@@ -96,13 +96,13 @@ module _ (C : Lattice) where
         ∙ first-holds (permitRules (permitRecord (length before) (p .conditions)) place (length before)) _ (refl, (next-is (length before) 8 (omega arith), tt))
         ∙ each-holds 0 32 (λ c. rule 7 place c (not (bit c (p .conditions)) || declaredCondition (sheetOf cs vs before) c)) _ (λ c l. implies (bit c (p .conditions)) _ (λ b. lt-ltb c (length cs) (e .0 .1 c b)))
         ∙ ap (answer C (at (place + 1) (sheetOf cs vs before) (aPermit (p .conditions)) (1 ∷ 1 ∷ []) (λ ts. ts)))
-          (append-assoc (tree (p .from) ++ tree (p .to)) (numbered permit (length before + 1) ps) rest ∙ append-assoc (tree (p .from)) (tree (p .to)) (numbered permit (length before + 1) ps ++ rest))
+        (append-assoc (tree (p .from) ++ tree (p .to)) (numbered permit (length before + 1) ps) rest ∙ append-assoc (tree (p .from)) (tree (p .to)) (numbered permit (length before + 1) ps ++ rest))
         ∙ tree-goes (p .from) (place + 1) (sheetOf cs vs before) (aPermit (p .conditions)) 1 (1 ∷ []) (λ ts. ts) (tree (p .to) ++ (numbered permit (length before + 1) ps ++ rest)) (e .0 .2)
         ∙ tree-goes (p .to) (place + 1 + length (tree (p .from))) (sheetOf cs vs before) (aPermit (p .conditions)) 1 [] (λ ts. p .from ∷ ts) (numbered permit (length before + 1) ps ++ rest) (e .0 .3)
         ∙ closing.settle C (place + 1 + length (tree (p .from)) + length (tree (p .to))) (sheetOf cs vs before) (aPermit (p .conditions)) (λ ts. p .from ∷ p .to ∷ ts) (numbered permit (length before + 1) ps ++ rest)
         ∙ ap (λ n. answer C (closed (place + 1 + length (tree (p .from)) + length (tree (p .to))) (sheetOf cs vs (before ++ p ∷ []))) (numbered permit n ps ++ rest)) (sym (length-append before (p ∷ [])))
         ∙ permits-go ps (before ++ p ∷ []) cs vs (place + 1 + length (tree (p .from)) + length (tree (p .to))) rest (omega (arith, length-append before (p ∷ []))) (e .1)
-          (λ n. ap (λ x. answer C (closed n (sheetOf cs vs x)) rest) (append-assoc before (p ∷ []) ps) ∙ k n)
+        (λ n. ap (λ x. answer C (closed n (sheetOf cs vs x)) rest) (append-assoc before (p ∷ []) ps) ∙ k n)
 
   pub valid-accepted : (sh : Sheet) → Valid C sh → answer C start (written sh) ≡ accepted sh
   unfolding written

@@ -84,16 +84,16 @@ module _ (C : Lattice) where
   plant place sh owner (d ∷ ds) trees [] sh′ f h = refused-accepted (refusal 3 place 0) sh′ (sym (steps.end C place sh owner d ds trees) ∙ h)
   plant place sh owner (d ∷ ds) trees (r ∷ rs) sh′ f h =
       elim (cases-eq (r .letter) 76) [
-        inl e ↦
-          let next = answer C (at (place + 1) sh owner ds (λ ps. trees (leaf (r .n) ∷ ps))) rs in
-          let t = took-all (leafRules r place d (C .known (r .n))) next sh′ (sym (steps.leaf-step C place sh owner d ds trees r rs e) ∙ h) in
-          leaf-first sh owner d ds trees r rs sh′ (leaf-is r e (t .0 .0)) (t .0 .1 .0, f .0) (leb-true d 4 (t .0 .1 .1 .0)) (plant (place + 1) sh owner ds (λ ps. trees (leaf (r .n) ∷ ps)) rs sh′ (f .1) (t .1))
+        | inl e ↦
+            let next = answer C (at (place + 1) sh owner ds (λ ps. trees (leaf (r .n) ∷ ps))) rs in
+            let t = took-all (leafRules r place d (C .known (r .n))) next sh′ (sym (steps.leaf-step C place sh owner d ds trees r rs e) ∙ h) in
+            leaf-first sh owner d ds trees r rs sh′ (leaf-is r e (t .0 .0)) (t .0 .1 .0, f .0) (leb-true d 4 (t .0 .1 .1 .0)) (plant (place + 1) sh owner ds (λ ps. trees (leaf (r .n) ∷ ps)) rs sh′ (f .1) (t .1))
         | inr n ↦ elim (cases-eq (r .letter) 69) [
-          inl e ↦
-            let next = answer C (at (place + 1) sh owner ((d + 1) ∷ (d + 1) ∷ ds) (λ ps. trees (joined (r .a) ps))) rs in
-            let t = took-all (nodeRules r place d (length (sh .conditions))) next sh′ (sym (steps.node-step C place sh owner d ds trees r rs e) ∙ h) in
-            let i = plant (place + 1) sh owner ((d + 1) ∷ (d + 1) ∷ ds) (λ ps. trees (joined (r .a) ps)) rs sh′ (f .1) (t .1) in
-            node-parts sh owner d ds trees r rs sh′ (node-is r e (t .0 .0)) (ltb-true (r .a) (length (sh .conditions)) (t .0 .1 .0)) (leb-true d 4 (t .0 .1 .1 .0)) (i .policies) (i .rest) (i .place) (i .fits) (i .grown) (i .stands) (i .goes)
+          | inl e ↦
+              let next = answer C (at (place + 1) sh owner ((d + 1) ∷ (d + 1) ∷ ds) (λ ps. trees (joined (r .a) ps))) rs in
+              let t = took-all (nodeRules r place d (length (sh .conditions))) next sh′ (sym (steps.node-step C place sh owner d ds trees r rs e) ∙ h) in
+              let i = plant (place + 1) sh owner ((d + 1) ∷ (d + 1) ∷ ds) (λ ps. trees (joined (r .a) ps)) rs sh′ (f .1) (t .1) in
+              node-parts sh owner d ds trees r rs sh′ (node-is r e (t .0 .0)) (ltb-true (r .a) (length (sh .conditions)) (t .0 .1 .0)) (leb-true d 4 (t .0 .1 .1 .0)) (i .policies) (i .rest) (i .place) (i .fits) (i .grown) (i .stands) (i .goes)
           | inr m ↦ refused-accepted (refusal 3 place 0) sh′ (sym (steps.stranger C place sh owner d ds trees r rs n m) ∙ h)
         ]
       ]
@@ -209,35 +209,35 @@ module _ (C : Lattice) where
   read zero (r ∷ rs) place cs vs ps sh′ l f g h = absurd (omega arith)
   read (suc n) (r ∷ rs) place cs vs ps sh′ l f g h =
       elim (cases-eq (r .letter) 67) [
-        inl e ↦
-          let next = answer C (closed (place + 1) (sheetOf C (cs ++ r .n ∷ []) vs ps)) rs in
-          let t = took-all (rule 3 place 0 (none vs && none ps) ∷ conditionRules r place (length cs) (C .known (r .n))) next sh′ (sym (closing.condition-step C place (sheetOf C cs vs ps) r rs e) ∙ h) in
-          let i = and-parts (eqb (r .a) (length cs)) (ltb (r .a) 16) (t .0 .1 .1 .0) in
-          let q = eqb-true (r .a) (length cs) (i .0) in
-          let m = ltb-true (r .a) 16 (i .1) in
-          after (sheetOf C cs vs ps) (sheetOf C (cs ++ r .n ∷ []) vs ps) sh′ (r ∷ rs) (condition (length cs) (r .n)) rs (condition-written cs (r .n) vs ps (t .0 .0))
-          (ap (λ x. x ∷ rs) (condition-is r (length cs) e (t .0 .1 .0) q))
-          (read n rs (place + 1) (cs ++ r .n ∷ []) vs ps sh′ (omega arith) (f .1) (condition-good cs (r .n) vs ps (t .0 .0) g (omega (arith, q, m)) (t .0 .1 .1 .1 .0, f .0)) (t .1))
+        | inl e ↦
+            let next = answer C (closed (place + 1) (sheetOf C (cs ++ r .n ∷ []) vs ps)) rs in
+            let t = took-all (rule 3 place 0 (none vs && none ps) ∷ conditionRules r place (length cs) (C .known (r .n))) next sh′ (sym (closing.condition-step C place (sheetOf C cs vs ps) r rs e) ∙ h) in
+            let i = and-parts (eqb (r .a) (length cs)) (ltb (r .a) 16) (t .0 .1 .1 .0) in
+            let q = eqb-true (r .a) (length cs) (i .0) in
+            let m = ltb-true (r .a) 16 (i .1) in
+            after (sheetOf C cs vs ps) (sheetOf C (cs ++ r .n ∷ []) vs ps) sh′ (r ∷ rs) (condition (length cs) (r .n)) rs (condition-written cs (r .n) vs ps (t .0 .0))
+            (ap (λ x. x ∷ rs) (condition-is r (length cs) e (t .0 .1 .0) q))
+            (read n rs (place + 1) (cs ++ r .n ∷ []) vs ps sh′ (omega arith) (f .1) (condition-good cs (r .n) vs ps (t .0 .0) g (omega (arith, q, m)) (t .0 .1 .1 .1 .0, f .0)) (t .1))
         | inr n67 ↦ elim (cases-eq (r .letter) 86) [
-          inl e ↦
-            let owner = aVariable place (eqb (r .b) 1) in
-            let next = answer C (at (place + 1) (sheetOf C cs vs ps) owner (1 ∷ []) (λ ts. ts)) rs in
-            let t = took-all (rule 3 place 0 (none ps) ∷ variableRules r place (length vs)) next sh′ (sym (closing.variable-step C place (sheetOf C cs vs ps) r rs e) ∙ h) in
-            let i = and-parts (eqb (r .a) (length vs)) (ltb (r .a) 64) (t .0 .1 .1 .0) in
-            let q = eqb-true (r .a) (length vs) (i .0) in
-            let m = ltb-true (r .a) 64 (i .1) in
-            let b = plant (place + 1) (sheetOf C cs vs ps) owner (1 ∷ []) (λ ts. ts) rs sh′ (f .1) (t .1) in
-            let o = one-of (length cs) (b .policies) (b .grown) in
-            let p = o .0 in
-            let v : Variable = record { policy = p; fed = eqb (r .b) 1 } in
-            let go = subst (λ ts. answer C (at (b .place) (sheetOf C cs vs ps) owner [] (λ qs. ts ++ qs)) (b .rest) ≡ accepted sh′) (o .1) (b .goes) in
-            let nine = took-each 0 16 (λ c. rule 9 place c (not (wipes c p) || C .below (levelOf (sheetOf C cs vs ps) c) (presentLevel C p))) (answer C (closed (b .place) (sheetOf C cs (vs ++ v ∷ []) ps)) (b .rest)) sh′
-                (sym (closing.settle C (b .place) (sheetOf C cs vs ps) owner (λ qs. p ∷ qs) (b .rest)) ∙ go) in
-            let st : rs ≡ tree p ++ b .rest = b .stands ∙ ap (λ ts. forest ts ++ b .rest) (o .1) ∙ ap (λ x. x ++ b .rest) (append-nil (tree p)) in
-            let d = wipes-declared C (length cs) 1 in
-            after (sheetOf C cs vs ps) (sheetOf C cs (vs ++ v ∷ []) ps) sh′ (r ∷ rs) (variable (length vs) v) (b .rest) (variable-written cs vs v ps (t .0 .0))
-            (ap (λ x. x ∷ rs) (variable-is r (length vs) e (t .0 .1 .0) q) ∙ ap (λ x. variableRecord (length vs) (eqb (r .b) 1) ∷ x) st)
-            (read n (b .rest) (b .place) cs (vs ++ v ∷ []) ps sh′ (omega (arith, l, shorter (tree p) (b .rest) rs st)) (b .fits)
+          | inl e ↦
+              let owner = aVariable place (eqb (r .b) 1) in
+              let next = answer C (at (place + 1) (sheetOf C cs vs ps) owner (1 ∷ []) (λ ts. ts)) rs in
+              let t = took-all (rule 3 place 0 (none ps) ∷ variableRules r place (length vs)) next sh′ (sym (closing.variable-step C place (sheetOf C cs vs ps) r rs e) ∙ h) in
+              let i = and-parts (eqb (r .a) (length vs)) (ltb (r .a) 64) (t .0 .1 .1 .0) in
+              let q = eqb-true (r .a) (length vs) (i .0) in
+              let m = ltb-true (r .a) 64 (i .1) in
+              let b = plant (place + 1) (sheetOf C cs vs ps) owner (1 ∷ []) (λ ts. ts) rs sh′ (f .1) (t .1) in
+              let o = one-of (length cs) (b .policies) (b .grown) in
+              let p = o .0 in
+              let v : Variable = record { policy = p; fed = eqb (r .b) 1 } in
+              let go = subst (λ ts. answer C (at (b .place) (sheetOf C cs vs ps) owner [] (λ qs. ts ++ qs)) (b .rest) ≡ accepted sh′) (o .1) (b .goes) in
+              let nine = took-each 0 16 (λ c. rule 9 place c (not (wipes c p) || C .below (levelOf (sheetOf C cs vs ps) c) (presentLevel C p))) (answer C (closed (b .place) (sheetOf C cs (vs ++ v ∷ []) ps)) (b .rest)) sh′
+              (sym (closing.settle C (b .place) (sheetOf C cs vs ps) owner (λ qs. p ∷ qs) (b .rest)) ∙ go) in
+              let st : rs ≡ tree p ++ b .rest = b .stands ∙ ap (λ ts. forest ts ++ b .rest) (o .1) ∙ ap (λ x. x ++ b .rest) (append-nil (tree p)) in
+              let d = wipes-declared C (length cs) 1 in
+              after (sheetOf C cs vs ps) (sheetOf C cs (vs ++ v ∷ []) ps) sh′ (r ∷ rs) (variable (length vs) v) (b .rest) (variable-written cs vs v ps (t .0 .0))
+              (ap (λ x. x ∷ rs) (variable-is r (length vs) e (t .0 .1 .0) q) ∙ ap (λ x. variableRecord (length vs) (eqb (r .b) 1) ∷ x) st)
+              (read n (b .rest) (b .place) cs (vs ++ v ∷ []) ps sh′ (omega (arith, l, shorter (tree p) (b .rest) rs st)) (b .fits)
               record {
                 counts = (g .counts .0, omega (arith, length-append vs (v ∷ []), q, m), g .counts .2);
                 levels = g .levels;
@@ -247,25 +247,25 @@ module _ (C : Lattice) where
               }
               (nine .1))
           | inr n86 ↦ elim (cases-eq (r .letter) 82) [
-            inl e ↦
-              let owner = aPermit (r .n) in
-              let next = answer C (at (place + 1) (sheetOf C cs vs ps) owner (1 ∷ 1 ∷ []) (λ ts. ts)) rs in
-              let seven : ℕ → Rule = λ c. rule 7 place c (not (bit c (r .n)) || declaredCondition (sheetOf C cs vs ps) c) in
-              let w = took-all (permitRules r place (length ps)) (first (eachFrom 0 32 seven) next) sh′ (sym (closing.permit-step C place (sheetOf C cs vs ps) r rs e) ∙ h) in
-              let y = took-each 0 32 seven next sh′ (w .1) in
-              let i = and-parts (eqb (r .a) (length ps)) (ltb (r .a) 8) (w .0 .1 .0) in
-              let q = eqb-true (r .a) (length ps) (i .0) in
-              let m = ltb-true (r .a) 8 (i .1) in
-              let b = plant (place + 1) (sheetOf C cs vs ps) owner (1 ∷ 1 ∷ []) (λ ts. ts) rs sh′ (f .1) (y .1) in
-              let o = two-of (length cs) (b .policies) (b .grown) in
-              let s = o .0 in
-              let t = o .1 in
-              let p : Permit = record { conditions = r .n; from = s; to = t } in
-              let go = subst (λ ts. answer C (at (b .place) (sheetOf C cs vs ps) owner [] (λ qs. ts ++ qs)) (b .rest) ≡ accepted sh′) (o .2) (b .goes) in
-              let st : rs ≡ (tree s ++ tree t) ++ b .rest = b .stands ∙ ap (λ ts. forest ts ++ b .rest) (o .2) ∙ ap (λ x. (tree s ++ x) ++ b .rest) (append-nil (tree t)) in
-              after (sheetOf C cs vs ps) (sheetOf C cs vs (ps ++ p ∷ [])) sh′ (r ∷ rs) (permit (length ps) p) (b .rest) (permit-written cs vs ps p)
-              (ap (λ x. x ∷ rs) (permit-is r (length ps) e (w .0 .0) q) ∙ ap (λ x. permitRecord (length ps) (r .n) ∷ x) st)
-              (read n (b .rest) (b .place) cs vs (ps ++ p ∷ []) sh′ (omega (arith, l, shorter (tree s ++ tree t) (b .rest) rs st)) (b .fits)
+            | inl e ↦
+                let owner = aPermit (r .n) in
+                let next = answer C (at (place + 1) (sheetOf C cs vs ps) owner (1 ∷ 1 ∷ []) (λ ts. ts)) rs in
+                let seven : ℕ → Rule = λ c. rule 7 place c (not (bit c (r .n)) || declaredCondition (sheetOf C cs vs ps) c) in
+                let w = took-all (permitRules r place (length ps)) (first (eachFrom 0 32 seven) next) sh′ (sym (closing.permit-step C place (sheetOf C cs vs ps) r rs e) ∙ h) in
+                let y = took-each 0 32 seven next sh′ (w .1) in
+                let i = and-parts (eqb (r .a) (length ps)) (ltb (r .a) 8) (w .0 .1 .0) in
+                let q = eqb-true (r .a) (length ps) (i .0) in
+                let m = ltb-true (r .a) 8 (i .1) in
+                let b = plant (place + 1) (sheetOf C cs vs ps) owner (1 ∷ 1 ∷ []) (λ ts. ts) rs sh′ (f .1) (y .1) in
+                let o = two-of (length cs) (b .policies) (b .grown) in
+                let s = o .0 in
+                let t = o .1 in
+                let p : Permit = record { conditions = r .n; from = s; to = t } in
+                let go = subst (λ ts. answer C (at (b .place) (sheetOf C cs vs ps) owner [] (λ qs. ts ++ qs)) (b .rest) ≡ accepted sh′) (o .2) (b .goes) in
+                let st : rs ≡ (tree s ++ tree t) ++ b .rest = b .stands ∙ ap (λ ts. forest ts ++ b .rest) (o .2) ∙ ap (λ x. (tree s ++ x) ++ b .rest) (append-nil (tree t)) in
+                after (sheetOf C cs vs ps) (sheetOf C cs vs (ps ++ p ∷ [])) sh′ (r ∷ rs) (permit (length ps) p) (b .rest) (permit-written cs vs ps p)
+                (ap (λ x. x ∷ rs) (permit-is r (length ps) e (w .0 .0) q) ∙ ap (λ x. permitRecord (length ps) (r .n) ∷ x) st)
+                (read n (b .rest) (b .place) cs vs (ps ++ p ∷ []) sh′ (omega (arith, l, shorter (tree s ++ tree t) (b .rest) rs st)) (b .fits)
                 record {
                   counts = (g .counts .0, g .counts .1, omega (arith, length-append ps (p ∷ []), q, m));
                   levels = g .levels;

@@ -22,7 +22,7 @@ module _ (C : Lattice) (place : ℕ) (sh : Sheet) where
   module _ (owner : Owner) (trees : List Policy → List Policy) where
     same : (r : Record) (rs : List Record) (k : Kind)
         → first (asked C (at place sh owner [] trees) r k) (answer C (established (at place sh owner [] trees) r k) rs)
-          ≡ first (asked C (closed place (declare owner (trees []) sh)) r k) (answer C (established (closed place (declare owner (trees []) sh)) r k) rs)
+        ≡ first (asked C (closed place (declare owner (trees []) sh)) r k) (answer C (established (closed place (declare owner (trees []) sh)) r k) rs)
     same r rs conditions = refl
     same r rs variables = refl
     same r rs permits = refl

@@ -40,10 +40,12 @@ module _ (C : Lattice) (known : List Bool) (before : SheetTable) (place : ℕ) (
   pub refused-letter : (r .letter ≡ 67 → before .variables ≡ 0 → before .permits ≡ 0 → ⊥) → (r .letter ≡ 86 → before .permits ≡ 0 → ⊥) → (r .letter ≡ 82 → ⊥) → ItemRefused C known before place r rs (refusal 3 place 0)
   refused-letter c v p = record {
     says = λ sh t told. elim (cases-eq (r .letter) 67) [
-        inl e ↦ closing.condition-step C place sh r rs e ∙ cond-false _ _ _ (late (sh .variables) (sh .permits) (λ x y. c e (t .variables ∙ x) (t .permits ∙ y)))
+      | inl e ↦ closing.condition-step C place sh r rs e ∙ cond-false _ _ _ (late (sh .variables) (sh .permits) (λ x y. c e (t .variables ∙ x) (t .permits ∙ y)))
       | inr a ↦ elim (cases-eq (r .letter) 86) [
-          inl e ↦ closing.variable-step C place sh r rs e ∙ cond-false _ _ _ (something (sh .permits) (λ y. v e (t .permits ∙ y)))
-        | inr b ↦ closing.stranger C place sh r rs a b p ] ];
+        | inl e ↦ closing.variable-step C place sh r rs e ∙ cond-false _ _ _ (something (sh .permits) (λ y. v e (t .permits ∙ y)))
+        | inr b ↦ closing.stranger C place sh r rs a b p
+      ]
+    ];
   }
 
   module _ (l : r .letter ≡ 67) (v : before .variables ≡ 0) (p : before .permits ≡ 0) where
@@ -55,7 +57,7 @@ module _ (C : Lattice) (known : List Bool) (before : SheetTable) (place : ℕ) (
         let next = answer C (closed (place + 1) (withCondition sh (r .n))) rs in
         closing.condition-step C place sh r rs l
         ∙ ap₂ (λ (x : List Variable) (y : List Permit). first (rule 3 place 0 (none x && none y) ∷ conditionRules r place (length (sh .conditions)) (C .known (r .n))) (answer C (closed (place + 1) (withCondition sh (r .n))) rs))
-          (nothing (sh .variables) (sym (t .variables) ∙ v)) (nothing (sh .permits) (sym (t .permits) ∙ p))
+        (nothing (sh .variables) (sym (t .variables) ∙ v)) (nothing (sh .permits) (sym (t .permits) ∙ p))
         ∙ ap₂ (λ n b. first (conditionRules r place n b) (answer C (closed (place + 1) (withCondition sh (r .n))) rs)) (sym (t .conditions)) (sym (told .0))
 
     pub condition-refused : (e : Refusal) → Err e ≡ judged conditionAsked (r .n) → ItemRefused C known before place r rs e
@@ -92,6 +94,6 @@ module _ (C : Lattice) (known : List Bool) (before : SheetTable) (place : ℕ) (
           grants = t .grants;
         };
         goes = λ sh t told.
-          let p = judged-ok conditionAsked (r .n) level h in
-          asks sh t told ∙ first-holds conditionAsked _ (p .1) ∙ ap (λ n. answer C (closed (place + 1) (withCondition sh n)) rs) (sym (p .0));
+            let p = judged-ok conditionAsked (r .n) level h in
+            asks sh t told ∙ first-holds conditionAsked _ (p .1) ∙ ap (λ n. answer C (closed (place + 1) (withCondition sh n)) rs) (sym (p .0));
       }

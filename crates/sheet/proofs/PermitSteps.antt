@@ -92,19 +92,19 @@ module _ (C : Lattice) (known : List Bool) (before : SheetTable) (place : ℕ) (
             sheet = λ sh. withPermit sh record { conditions = mask; from = one .policy; to = two .policy };
             tabulated = λ told. tabulated-tree C known next last (two .policy) left rest (two .stands) (two .reached) (tabulated-left told);
             represents = λ sh t.
-              let x : Permit = record { conditions = mask; from = one .policy; to = two .policy } in
-              let d : Permit = record { conditions = 0; from = leaf 0; to = leaf 0 } in
-              record {
-                sizes = (t .sizes .0, t .sizes .1, length-set (before .grants) (before .permits) grant ∙ t .sizes .2);
-                conditions = t .conditions;
-                levels = t .levels;
-                variables = t .variables;
-                rows = t .rows;
-                beyond = t .beyond;
-                permits = omega (arith, t .permits, length-append (sh .permits) (x ∷ []));
-                grants = grows HoldsPermit (before .grants) (sh .permits) grant blankGrant x d (before .permits) (t .permits) (omega (arith, small, t .sizes .2)) (t .grants) record { conditions = refl; from = holds-from; to = holds-to };
-              };
+                let x : Permit = record { conditions = mask; from = one .policy; to = two .policy } in
+                let d : Permit = record { conditions = 0; from = leaf 0; to = leaf 0 } in
+                record {
+                  sizes = (t .sizes .0, t .sizes .1, length-set (before .grants) (before .permits) grant ∙ t .sizes .2);
+                  conditions = t .conditions;
+                  levels = t .levels;
+                  variables = t .variables;
+                  rows = t .rows;
+                  beyond = t .beyond;
+                  permits = omega (arith, t .permits, length-append (sh .permits) (x ∷ []));
+                  grants = grows HoldsPermit (before .grants) (sh .permits) grant blankGrant x d (before .permits) (t .permits) (omega (arith, small, t .sizes .2)) (t .grants) record { conditions = refl; from = holds-from; to = holds-to };
+                };
             goes = λ sh t told.
-              half sh t told ∙ two .goes C (tabulated-left told) sh (aPermit mask) [] (λ ps. one .policy ∷ ps) (sym (t .conditions))
-              ∙ closing.settle C last sh (aPermit mask) (λ ps. one .policy ∷ two .policy ∷ ps) rest;
+                half sh t told ∙ two .goes C (tabulated-left told) sh (aPermit mask) [] (λ ps. one .policy ∷ ps) (sym (t .conditions))
+                ∙ closing.settle C last sh (aPermit mask) (λ ps. one .policy ∷ two .policy ∷ ps) rest;
           }

@@ -18,4 +18,3 @@ node-is r e h =
     let p = and-parts (eqb (r .b) 0) (eqb (r .c) 0 && eqb (r .n) 0) h in
     let q = and-parts (eqb (r .c) 0) (eqb (r .n) 0) (p .1) in
     λ i. record { letter = e i; a = r .a; b = eqb-true (r .b) 0 (p .0) i; c = eqb-true (r .c) 0 (q .0) i; n = eqb-true (r .n) 0 (q .1) i }
-

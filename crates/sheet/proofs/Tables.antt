@@ -42,11 +42,12 @@ pub grows : {X Y : Type 0} (R : Y → X → Type 0) (ys : List Y) (xs : List X) 
     → ((k : ℕ) → k < length xs → R (getD ys k dy) (getD xs k dx)) → R y x → (k : ℕ) → k < length (xs ++ x ∷ []) → R (getD (set ys n y) k dy) (getD (xs ++ x ∷ []) k dx)
 grows R ys xs y dy x dx n e l f p k h =
     elim (cases-eq k n) [
-      inl q ↦ subst (λ j. R (getD (set ys n y) j dy) (getD (xs ++ x ∷ []) j dx)) (sym q)
-        (subst (λ z. R z (getD (xs ++ x ∷ []) n dx)) (sym (getD-set-same ys n y dy l)) (subst (λ z. R y z) (sym (ap (λ j. getD (xs ++ x ∷ []) j dx) e ∙ at-end xs x dx)) p))
-    | inr q ↦
-        let lt : k < length xs = omega (arith, h, e, q, length-append xs (x ∷ [])) in
-        subst (λ z. R z (getD (xs ++ x ∷ []) k dx)) (sym (getD-set-other ys n k y dy q)) (subst (λ z. R (getD ys k dy) z) (sym (getD-append-left xs (x ∷ []) dx k lt)) (f k lt)) ]
+      | inl q ↦ subst (λ j. R (getD (set ys n y) j dy) (getD (xs ++ x ∷ []) j dx)) (sym q)
+          (subst (λ z. R z (getD (xs ++ x ∷ []) n dx)) (sym (getD-set-same ys n y dy l)) (subst (λ z. R y z) (sym (ap (λ j. getD (xs ++ x ∷ []) j dx) e ∙ at-end xs x dx)) p))
+      | inr q ↦
+          let lt : k < length xs = omega (arith, h, e, q, length-append xs (x ∷ [])) in
+          subst (λ z. R z (getD (xs ++ x ∷ []) k dx)) (sym (getD-set-other ys n k y dy q)) (subst (λ z. R (getD ys k dy) z) (sym (getD-append-left xs (x ∷ []) dx k lt)) (f k lt))
+    ]
 
 -- the places beyond the last item stay as they were
 pub stays-beyond : {X Y : Type 0} (ys : List Y) (xs : List X) (y d : Y) (x : X) (n : ℕ) → n ≡ length xs → ((k : ℕ) → length xs ≤ k → getD ys k d ≡ d) → (k : ℕ) → length (xs ++ x ∷ []) ≤ k → getD (set ys n y) k d ≡ d

@@ -96,8 +96,10 @@ module _ (known : List Bool) (conditions place depth : ℕ) where
       node-goes C sh owner ds trees k = node-asks C sh owner ds trees k l ∙ first-holds nodeAsked _ (judged-ok nodeAsked (r .a) condition h .1)
 
       pub refused-present : (e : Refusal) → TreeRefused known conditions (place + 1) (depth + 1) rs e → TreeRefused known conditions place depth (r ∷ rs) e
-      refused-present e f = record { says = λ C told sh owner ds trees k.
-          node-goes C sh owner ds trees k ∙ f .says C (told .1) sh owner ((depth + 1) ∷ ds) (λ ps. trees (joined (r .a) ps)) k }
+      refused-present e f = record {
+        says = λ C told sh owner ds trees k.
+            node-goes C sh owner ds trees k ∙ f .says C (told .1) sh owner ((depth + 1) ∷ ds) (λ ps. trees (joined (r .a) ps)) k;
+      }
 
       module _ (guard next : ℕ) (before between : Row) (left : List Record) (inner : Row) (w : inner ≡ withNode before condition) (one : TreeRead known conditions (place + 1) (depth + 1) guard rs inner between next left) where
         tabulated-left : (C : Lattice) → Tabulated C known place (r ∷ rs) → Tabulated C known next left
@@ -108,8 +110,10 @@ module _ (known : List Bool) (conditions place depth : ℕ) where
         part-goes C told sh owner ds trees k = node-goes C sh owner ds trees k ∙ one .goes C (told .1) sh owner ((depth + 1) ∷ ds) (λ ps. trees (joined (r .a) ps)) k
 
         pub refused-later : (e : Refusal) → TreeRefused known conditions next (depth + 1) left e → TreeRefused known conditions place depth (r ∷ rs) e
-        refused-later e f = record { says = λ C told sh owner ds trees k.
-            part-goes C told sh owner ds trees k ∙ f .says C (tabulated-left C told) sh owner ds (λ ps. trees (joined (r .a) (one .policy ∷ ps))) k }
+        refused-later e f = record {
+          says = λ C told sh owner ds trees k.
+              part-goes C told sh owner ds trees k ∙ f .says C (tabulated-left C told) sh owner ds (λ ps. trees (joined (r .a) (one .policy ∷ ps))) k;
+        }
 
         pub read-node : (last inside : ℕ) (after : Row) (rest : List Record) → inside ≡ including condition guard → TreeRead known conditions next (depth + 1) inside left between after last rest
             → TreeRead known conditions place depth guard (r ∷ rs) before after last rest

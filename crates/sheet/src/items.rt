@@ -35,7 +35,14 @@ fn check_condition(first: Record, place: usize, count: usize, known: bool) -> Re
 }
 
 // Reads the item whose record is `first`, at `place`; its trees stand in front of `bytes`.
-pub(crate) fn read_item<'a, L: Lattice>(lattice: &L, first: Record, bytes: &'a [u8], place: usize, known: &[bool], table: &mut SheetTable) -> Result<(usize, &'a [u8]), Refusal>
+pub(crate) fn read_item<'a, L: Lattice>(
+    lattice: &L,
+    first: Record,
+    bytes: &'a [u8],
+    place: usize,
+    known: &[bool],
+    table: &mut SheetTable,
+) -> Result<(usize, &'a [u8]), Refusal>
     requires { ⌜ now table .conditions ≤ 16 ⌝ ∗ ⌜ 8 * (place + 1) + length (now bytes) ≤ 8 * length (now known) ⌝ }
     ensures forward { λ r. ⌜ made r (λ p. (8 * p .0 + length (now (p .1)) ≡ 8 * (place + 1) + length (now (bytes .entry))) × (now (table .exit) .conditions ≤ 16) × (place < p .0)) ⌝ }
     ensures answer { λ r. ⌜ Cases r

@@ -11,7 +11,8 @@ pub(crate) fn kind_at(letter: u8, position: Position) -> RecordKind
 {
     match letter as char {
         'C' if position == Position::Conditions => RecordKind::Condition,
-        'V' if position == Position::Conditions || position == Position::Variables => RecordKind::Variable,
+        'V' if position == Position::Conditions || position == Position::Variables =>
+            RecordKind::Variable,
         'R' if position != Position::Tree => RecordKind::Permit,
         'L' if position == Position::Tree => RecordKind::Leaf,
         'E' if position == Position::Tree => RecordKind::Node,

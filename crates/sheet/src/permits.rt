@@ -59,7 +59,13 @@ fn check_mask(mask: u32, conditions: usize, place: usize) -> Result<(), Refusal>
 }
 
 // Reads the permit whose record is `first`, at `place`, and whose two trees stand in front of `bytes`.
-pub(crate) fn read_permit<'a>(first: Record, bytes: &'a [u8], place: usize, known: &[bool], table: &mut SheetTable) -> Result<(usize, &'a [u8]), Refusal>
+pub(crate) fn read_permit<'a>(
+    first: Record,
+    bytes: &'a [u8],
+    place: usize,
+    known: &[bool],
+    table: &mut SheetTable,
+) -> Result<(usize, &'a [u8]), Refusal>
     requires { ⌜ now table .conditions ≤ 16 ⌝ ∗ ⌜ 8 * (place + 1) + length (now bytes) ≤ 8 * length (now known) ⌝ }
     ensures forward { λ r. ⌜ made r (λ p. (8 * p .0 + length (now (p .1)) ≡ 8 * (place + 1) + length (now (bytes .entry))) × (now (table .exit) .conditions ≡ now (table .entry) .conditions) × (place < p .0)) ⌝ }
     ensures answer { λ r. ⌜ (first .letter ≡ 82 → (C : AnyLattice) → Cases r
@@ -73,7 +79,11 @@ pub(crate) fn read_permit<'a>(first: Record, bytes: &'a [u8], place: usize, know
     let (next, left) = read_tree(bytes, place + 1, 1, 0, table.conditions, known, &mut from)?;
     let mut to = Row::new();
     let (last, rest) = read_tree(left, next, 1, 0, table.conditions, known, &mut to)?;
-    table.grants[number] = Grant { conditions, from, to };
+    table.grants[number] = Grant {
+        conditions,
+        from,
+        to,
+    };
     table.permits = number + 1;
     Ok((last, rest))
 }

@@ -14,7 +14,10 @@ impl VariableRow {
     pub(crate) fn blank() -> VariableRow
         ensures { λ r. ⌜ r ≡ blankVariable ⌝ }
     {
-        VariableRow { policy: Row::new(), fed: false }
+        VariableRow {
+            policy: Row::new(),
+            fed: false,
+        }
     }
 }
 
@@ -29,7 +32,11 @@ impl SheetTable {
             variables: 0,
             rows: [VariableRow::blank(); 64],
             permits: 0,
-            grants: [Grant { conditions: 0, from: Row::new(), to: Row::new() }; 8],
+            grants: [Grant {
+                conditions: 0,
+                from: Row::new(),
+                to: Row::new(),
+            }; 8],
         }
     }
 
@@ -40,6 +47,10 @@ impl SheetTable {
         if self.permits > 0 {
             return Position::Permits;
         }
-        if self.variables > 0 { Position::Variables } else { Position::Conditions }
+        if self.variables > 0 {
+            Position::Variables
+        } else {
+            Position::Conditions
+        }
     }
 }

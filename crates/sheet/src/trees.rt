@@ -53,7 +53,15 @@ fn check_node(node: Record, place: usize, depth: u8, conditions: usize) -> Resul
 
 // Reads the tree at the front of `bytes`, whose first record is the sheet's record `place` and whose root has the given
 // depth. Its leaves go into the row, each with the conditions on whose later side it lies. Answers the place and the bytes after it.
-pub(crate) fn read_tree<'a>(bytes: &'a [u8], place: usize, depth: u8, guard: u16, conditions: usize, known: &[bool], row: &mut Row) -> Result<(usize, &'a [u8]), Refusal>
+pub(crate) fn read_tree<'a>(
+    bytes: &'a [u8],
+    place: usize,
+    depth: u8,
+    guard: u16,
+    conditions: usize,
+    known: &[bool],
+    row: &mut Row,
+) -> Result<(usize, &'a [u8]), Refusal>
     requires { ⌜ conditions ≤ 16 ⌝ ∗ ⌜ 8 * place + length (now bytes) ≤ 8 * length (now known) ⌝ ∗ ⌜ 1 ≤ depth ⌝ ∗ ⌜ depth ≤ 5 ⌝ }
     ensures forward { λ r. ⌜ made r (λ p. (8 * p .0 + length (now (p .1)) ≡ 8 * place + length (now (bytes .entry))) × (place < p .0)) ⌝ }
     ensures answer { λ r. ⌜ Cases r
@@ -72,8 +80,24 @@ pub(crate) fn read_tree<'a>(bytes: &'a [u8], place: usize, depth: u8, guard: u16
         RecordKind::Node => {
             let condition = check_node(first, place, depth, conditions)?;
             row.pass_node(condition);
-            let (next, left) = read_tree(rest, place + 1, depth + 1, guard, conditions, known, row)?;
-            read_tree(left, next, depth + 1, guard | condition_bit(condition), conditions, known, row)
+            let (next, left) = read_tree(
+                rest,
+                place + 1,
+                depth + 1,
+                guard,
+                conditions,
+                known,
+                row,
+            )?;
+            read_tree(
+                left,
+                next,
+                depth + 1,
+                guard | condition_bit(condition),
+                conditions,
+                known,
+                row,
+            )
         }
         _ => Err(Refusal::new(rule::SHEET_LETTER, place, 0)),
     }

@@ -34,7 +34,14 @@ fn check_variable(first: Record, place: usize, count: usize) -> Result<bool, Ref
 }
 
 // Reads the variable whose record is `first`, at `place`, and whose tree stands in front of `bytes`, into its own row.
-pub(crate) fn read_variable<'a, L: Lattice>(lattice: &L, first: Record, bytes: &'a [u8], place: usize, known: &[bool], table: &mut SheetTable) -> Result<(usize, &'a [u8]), Refusal>
+pub(crate) fn read_variable<'a, L: Lattice>(
+    lattice: &L,
+    first: Record,
+    bytes: &'a [u8],
+    place: usize,
+    known: &[bool],
+    table: &mut SheetTable,
+) -> Result<(usize, &'a [u8]), Refusal>
     requires { ⌜ now table .conditions ≤ 16 ⌝ ∗ ⌜ 8 * (place + 1) + length (now bytes) ≤ 8 * length (now known) ⌝ }
     ensures forward { λ r. ⌜ made r (λ p. (8 * p .0 + length (now (p .1)) ≡ 8 * (place + 1) + length (now (bytes .entry))) × (now (table .exit) .conditions ≡ now (table .entry) .conditions) × (place < p .0)) ⌝ }
     ensures others { λ r. ⌜ ((v : ℕ) → v ≢ now (table .entry) .variables → getD (now (table .exit) .rows) v blankVariable ≡ getD (now (table .entry) .rows) v blankVariable) ⌝ }
@@ -47,7 +54,15 @@ pub(crate) fn read_variable<'a, L: Lattice>(lattice: &L, first: Record, bytes: &
     let row = &mut table.rows[number];
     *row = VariableRow::blank();
     row.fed = fed;
-    let (next, rest) = read_tree(bytes, place + 1, 1, 0, table.conditions, known, &mut row.policy)?;
+    let (next, rest) = read_tree(
+        bytes,
+        place + 1,
+        1,
+        0,
+        table.conditions,
+        known,
+        &mut row.policy,
+    )?;
     let wipers = row.policy.wipers;
     let present = row.policy.present_level();
     check_wipers(lattice, &table.levels, wipers, present, place)?;

@@ -11,7 +11,13 @@ use lattice::Lattice;
 use records::Refusal;
 use records::rule;
 
-fn may_wipe<L: Lattice>(lattice: &L, wipers: u16, condition: usize, level: u32, present: u32) -> bool
+fn may_wipe<L: Lattice>(
+    lattice: &L,
+    wipers: u16,
+    condition: usize,
+    level: u32,
+    present: u32,
+) -> bool
     requires { ⌜ condition < 16 ⌝ }
     ensures { λ r. ⌜ r ≡ (not (bit condition wipers) || L·Lattice .lattice (now (lattice .entry)) .below level present) ⌝ }
 {
@@ -21,7 +27,13 @@ fn may_wipe<L: Lattice>(lattice: &L, wipers: u16, condition: usize, level: u32, 
     true
 }
 
-pub(crate) fn check_wipers<L: Lattice>(lattice: &L, levels: &[u32; 16], wipers: u16, present: u32, place: usize) -> Result<(), Refusal>
+pub(crate) fn check_wipers<L: Lattice>(
+    lattice: &L,
+    levels: &[u32; 16],
+    wipers: u16,
+    present: u32,
+    place: usize,
+) -> Result<(), Refusal>
     ensures { λ r. ⌜ Cases r
         (λ _. (a : Reading Sheet) → first (wiperRules (L·Lattice .lattice (now (lattice .entry))) (now (levels .entry)) wipers present place) a ≡ a)
         (λ e. (a : Reading Sheet) → first (wiperRules (L·Lattice .lattice (now (lattice .entry))) (now (levels .entry)) wipers present place) a ≡ refused e) ⌝ }

@@ -21,7 +21,9 @@ mod tests {
 
     impl Draft {
         fn new(heap: Global) -> Draft {
-            Draft { bytes: Vec::new(heap) }
+            Draft {
+                bytes: Vec::new(heap),
+            }
         }
 
         fn put(&mut self, letter: u8, a: u8, b: u8, n: u32) -> Result<(), AllocError> {
@@ -60,7 +62,14 @@ mod tests {
         fn refused(&self, number: u8, place: usize, detail: u32) -> Result<(), Fail> {
             match read_sheet(&Chain { top: 3 }, self.bytes.as_slice()) {
                 Ok(_) => Err(Fail::new("accepted")),
-                Err(refusal) => check_eq(refusal, Refusal { number, place, detail }),
+                Err(refusal) => check_eq(
+                    refusal,
+                    Refusal {
+                        number,
+                        place,
+                        detail,
+                    },
+                ),
             }
         }
     }
@@ -178,7 +187,14 @@ mod tests {
         leaf.refused(6, 1, 70000)?;
         match read_sheet(&ReaderSets, leaf.bytes.as_slice()) {
             Ok(_) => Err(Fail::new("accepted")),
-            Err(refusal) => check_eq(refusal, Refusal { number: 6, place: 1, detail: 70000 }),
+            Err(refusal) => check_eq(
+                refusal,
+                Refusal {
+                    number: 6,
+                    place: 1,
+                    detail: 70000,
+                },
+            ),
         }
     }
 

@@ -39,12 +39,21 @@ fn short_call(head: Record) -> Option<Call<'static>>
     let a = head.a;
     let n = head.n;
     match head.letter as char {
-        'f' if is_plain(head) => Some(Call::Feed { variable: a, value: n.cast_signed() }),
+        'f' if is_plain(head) => Some(Call::Feed {
+            variable: a,
+            value: n.cast_signed(),
+        }),
         'u' if names_one(head) => Some(Call::Raise { condition: a }),
         'd' if names_one(head) => Some(Call::Lower { condition: a }),
         'p' if names_number(head) => Some(Call::Pass { turns: n }),
-        'k' if is_plain(head) => Some(Call::Look { level: n, variable: a }),
-        'q' if is_plain(head) => Some(Call::Ask { level: n, condition: a }),
+        'k' if is_plain(head) => Some(Call::Look {
+            level: n,
+            variable: a,
+        }),
+        'q' if is_plain(head) => Some(Call::Ask {
+            level: n,
+            condition: a,
+        }),
         'i' if names_number(head) => Some(Call::Image { level: n }),
         _ => None,
     }

@@ -15,7 +15,13 @@ pub impl fmt::Display for Line as LineDisplay {
             Answer::Number(n) => write!(f, "{count} ok {n}"),
             Answer::Done(turns) => write!(f, "{count} done {turns}"),
             Answer::Spent(turns) => write!(f, "{count} spent {turns}"),
-            Answer::Refused(Refusal { number, place, detail }) => write!(f, "{count} no {number} {place} {detail}"),
+            Answer::Refused(
+                Refusal {
+                    number,
+                    place,
+                    detail,
+                },
+            ) => write!(f, "{count} no {number} {place} {detail}"),
         }
     }
 }

@@ -33,7 +33,7 @@ returns-in-Break-check-wipers g c = record {
   answer = λ l np.
       let p = err-from-errBy (c .from-residual-in-Break-check-wipers .result) (c .from-residual-in-Break-check-wipers .ensures .1) in
       rw (p .1, p .2) (steps.refused-wipers _ _ (c .args .table .now) _ (c .args .first) (records (c .args .bytes .now)) l np _ (c .in-Continue-fed .ensures tt) _ (c .read-tree .last .row) _ _ (search needs) (ap (λ v. v .policy) (c .blank .ensures))
-        (c .in-Continue-next .ensures tt .answer) _ (c .present-level-present .ensures) _ (c .in-Break-check-wipers .ensures tt));
+      (c .in-Continue-next .ensures tt .answer) _ (c .present-level-present .ensures) _ (c .in-Break-check-wipers .ensures tt));
 }
 
 pub returns : need.returns

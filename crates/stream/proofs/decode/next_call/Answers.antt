@@ -60,15 +60,16 @@ pub returns-in-None-short-call : need.returns-in-None-short-call
 returns-in-None-short-call c =
     let f : Fit (c .in-Some .head) = search needs in
     elim (c .in-rest-2 .came) [
-      in-rest-2·by·in-h·else-names-number w ↦
-        let s : (eqb (c .in-Some .head .letter) 104 && numberHead (c .in-Some .head)) ≡ true → ⊥ = search needs in
-        let l : (eqb (c .in-Some .head .letter) 108 && numberHead (c .in-Some .head)) ≡ true → ⊥ = search needs in
-        no-short (c .args .input .now) (c .in-Some .rest .now) (c .in-Some .head) f (c .in-Some .ensures tt .2) (c .in-None-short-call .ensures tt) s l
-    | in-rest-2·by·in-l·else-names-number-2 w ↦
-        let s : (eqb (c .in-Some .head .letter) 104 && numberHead (c .in-Some .head)) ≡ true → ⊥ = search needs in
-        let l : (eqb (c .in-Some .head .letter) 108 && numberHead (c .in-Some .head)) ≡ true → ⊥ = search needs in
-        no-short (c .args .input .now) (c .in-Some .rest .now) (c .in-Some .head) f (c .in-Some .ensures tt .2) (c .in-None-short-call .ensures tt) s l
-    | in-rest-2·by·in-rest· w ↦
-        let s : (eqb (c .in-Some .head .letter) 104 && numberHead (c .in-Some .head)) ≡ true → ⊥ = search needs in
-        let l : (eqb (c .in-Some .head .letter) 108 && numberHead (c .in-Some .head)) ≡ true → ⊥ = search needs in
-        no-short (c .args .input .now) (c .in-Some .rest .now) (c .in-Some .head) f (c .in-Some .ensures tt .2) (c .in-None-short-call .ensures tt) s l ]
+      | in-rest-2·by·in-h·else-names-number w ↦
+          let s : (eqb (c .in-Some .head .letter) 104 && numberHead (c .in-Some .head)) ≡ true → ⊥ = search needs in
+          let l : (eqb (c .in-Some .head .letter) 108 && numberHead (c .in-Some .head)) ≡ true → ⊥ = search needs in
+          no-short (c .args .input .now) (c .in-Some .rest .now) (c .in-Some .head) f (c .in-Some .ensures tt .2) (c .in-None-short-call .ensures tt) s l
+      | in-rest-2·by·in-l·else-names-number-2 w ↦
+          let s : (eqb (c .in-Some .head .letter) 104 && numberHead (c .in-Some .head)) ≡ true → ⊥ = search needs in
+          let l : (eqb (c .in-Some .head .letter) 108 && numberHead (c .in-Some .head)) ≡ true → ⊥ = search needs in
+          no-short (c .args .input .now) (c .in-Some .rest .now) (c .in-Some .head) f (c .in-Some .ensures tt .2) (c .in-None-short-call .ensures tt) s l
+      | in-rest-2·by·in-rest· w ↦
+          let s : (eqb (c .in-Some .head .letter) 104 && numberHead (c .in-Some .head)) ≡ true → ⊥ = search needs in
+          let l : (eqb (c .in-Some .head .letter) 108 && numberHead (c .in-Some .head)) ≡ true → ⊥ = search needs in
+          no-short (c .args .input .now) (c .in-Some .rest .now) (c .in-Some .head) f (c .in-Some .ensures tt .2) (c .in-None-short-call .ensures tt) s l
+    ]
