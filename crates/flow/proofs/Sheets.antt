@@ -28,7 +28,7 @@ use Rattle.flow.specs.declared.masks.PermitFlow.{PermitFlow}
 use Rattle.flow.specs.declared.masks.FlowMasks.{FlowMasks}
 use Rattle.flow.specs.Flows.{noInflow, VariablesThat, Admits, Permits, MasksOf}
 use Rattle.flow.specs.TableFlows.{EachBit, rowOf, leafRow, conditionsIn, variablesIn, permitsIn, VariablesInto, VariablesFrom, InflowOf, PermitFlowOf, TableFlows}
-use Rattle.flow.proofs.SoundSheets.{sound-sheet}
+use Rattle.machine.proofs.Sheets.{valid-sound}
 
 -- a mask all of whose bits are below w
 pub mask-below : (w n : ℕ) → ((k : ℕ) → bit k n ≡ true → k < w) → n % 2 ^ w ≡ n
@@ -44,7 +44,7 @@ leaf-holds l = record { conditions = tt; levels = refl; wipers = bit-zero }
 
 module _ (C : Lattice) (t : SheetTable) (sh : Sheet) (R : Represents t sh) (V : Valid C sh) where
   sound : SoundSheet C sh
-  sound = sound-sheet C sh V
+  sound = valid-sound C sh V
 
   all-conditions : conditionsIn t ≡ length (sh .conditions)
   all-conditions = omega (arith, R .conditions, V .counts .0)

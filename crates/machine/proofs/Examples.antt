@@ -21,7 +21,10 @@ pub from-top : (C : Lattice) (sh : Sheet) (p : Policy) → ContextFlowsTo C sh o
 from-top C sh p = record { variables = λ v h. absurd (false≢true h); conditions = λ c h. absurd (false≢true h) }
 
 under-one : (C : Lattice) (sh : Sheet) (v : ℕ) (p : Policy) → FlowsTo C (policyOf sh v) p → ContextFlowsTo C sh (underVariable v outermost) p
-under-one C sh v p f = record { variables = λ w h. elim (or-cases (eqb w v) false h) [ inl e ↦ subst (λ (i : ℕ). FlowsTo C (policyOf sh i) p) (sym (eqb-true w v e)) f | inr e ↦ absurd (false≢true e) ]; conditions = λ c h. absurd (false≢true h) }
+under-one C sh v p f = record {
+  variables = λ w h. elim (or-cases (eqb w v) false h) [ inl e ↦ subst (λ (i : ℕ). FlowsTo C (policyOf sh i) p) (sym (eqb-true w v e)) f | inr e ↦ absurd (false≢true e) ];
+  conditions = λ c h. absurd (false≢true h);
+}
 
 transient-flows : FlowsTo (chain 3) transient transient
 transient-flows s = elim (s 0) as (λ b. Below (chain 3) (cond b 3 1) (cond b 3 1)) [ true ↦ refl | false ↦ refl ]

@@ -67,7 +67,10 @@ bound-free b body f (suc i) (suc j) (suc n) m h k =
     ap (λ o. elim (isZero (m .values b)) [ true ↦ done (suc n) m [] | false ↦ o ])
     (then-alike n (body n m) (loop i b body) (loop j b body) (f n m) (λ x y z. bound-free b body f i j x y (omega arith) (omega arith)))
 
-pub while-law : (sh : Sheet) (b : ℕ) (c : Command) (n : ℕ) (m : Memory) → run sh (while b c) n m ≡ elim (isZero (m .values b)) [ true ↦ done n m [] | false ↦ elim n [ zero ↦ spent m [] | suc k ↦ andThen (run sh c k m) (run sh (while b c)) ] ]
+pub while-law : (sh : Sheet) (b : ℕ) (c : Command) (n : ℕ) (m : Memory) → run sh (while b c) n m ≡ elim (isZero (m .values b)) [
+  | true ↦ done n m []
+  | false ↦ elim n [ zero ↦ spent m [] | suc k ↦ andThen (run sh c k m) (run sh (while b c)) ]
+]
 while-law sh b c zero m = refl
 while-law sh b c (suc n) m =
     ap (λ o. elim (isZero (m .values b)) [ true ↦ done (suc n) m [] | false ↦ o ])

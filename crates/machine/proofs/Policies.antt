@@ -5,7 +5,7 @@ use mathlib.Core.Path.{_≡_, refl, sym, ap, _∙_}
 use Prim.Native.Nat.{ℕ}
 use lib.Dec.{eqb}
 use Rattle.std.proofs.shelf.Tests.{or-cases, or-left, or-right, eq-eqb, eqb-true}
-use Rattle.lattice.specs.Lattice.{Lattice, Lawful, Known, Below}
+use Rattle.lattice.specs.Lattice.{Lattice, Lawful, Below}
 use Rattle.policy.specs.Policy.{Set, Policy, leaf, erase, levelUnder, presentLevel, KnownLevels, wipes, wipedBy}
 use Rattle.policy.proofs.Orders.{below-trans}
 use Rattle.policy.proofs.RowLevels.{known-under}

@@ -32,7 +32,8 @@ module _ (V : View) where
   releases-append [] k = refl
   releases-append (r ∷ l) k = go (sees V (r .target)) (releases-append l k)
     where
-      go : (b : Bool) → releases V (l ++ k) ≡ releases V l ++ releases V k → cond b (r .value ∷ releases V (l ++ k)) (releases V (l ++ k)) ≡ cond b (r .value ∷ releases V l) (releases V l) ++ releases V k
+      go : (b : Bool) → releases V (l ++ k) ≡ releases V l ++ releases V k
+          → cond b (r .value ∷ releases V (l ++ k)) (releases V (l ++ k)) ≡ cond b (r .value ∷ releases V l) (releases V l) ++ releases V k
       go true e = ap (λ x. r .value ∷ x) e
       go false e = e
 

@@ -58,12 +58,16 @@ same-policy (erase c p q) (erase d r t) h =
     let g = same-policy q t (b .1) in
     λ i. erase (e i) (f i) (g i)
 
-program-sound : (C : Lattice) → Lawful C → (sh : Sheet) → SoundSheet C sh → (xs : List ℕ) (c : Command) → first (programRules sh xs) (accepted sampleProgram) ≡ accepted c → WellTyped C sh outermost c
+program-sound : (C : Lattice) → Lawful C → (sh : Sheet) → SoundSheet C sh → (xs : List ℕ) (c : Command)
+    → first (programRules sh xs) (accepted sampleProgram) ≡ accepted c → WellTyped C sh outermost c
 program-sound C W sh G xs c e =
     let t = took-all (programRules sh xs) (accepted sampleProgram) c e in
     let r = t .0 in
     let h : sampleProgram ≡ c = cc (t .1) in
-    subst (WellTyped C sh outermost) h ((r .1 .0, r .1 .1 .0, r .1 .1 .0, from-top C sh (policyOf sh 2), flows (r .1 .1 .0) (r .1 .1 .1 .0), flows (r .1 .1 .0) (r .1 .1 .1 .0)), tt)
+    let target = r .1 .0 in
+    let source = r .1 .1 .0 in
+    let f = flows source (r .1 .1 .1 .0) in
+    subst (WellTyped C sh outermost) h ((target, source, source, from-top C sh (policyOf sh 2), f, f), tt)
   where
     flows : HasVariable sh 0 → samePolicy (policyOf sh 0) (policyOf sh 2) ≡ true → FlowsTo C (policyOf sh 0) (policyOf sh 2)
     flows d k = subst (FlowsTo C (policyOf sh 0)) (same-policy (policyOf sh 0) (policyOf sh 2) k) (λ s. W .reflexive _ (known-under W s (policyOf sh 0) (G .variables 0 d)))
