@@ -2,26 +2,22 @@
 use mathlib.Core.Path.{_≡_, refl, sym, ap, _∙_, subst}
 use mathlib.Core.Bool.{Bool, true, false, cond}
 use mathlib.Core.List.{List, [], _∷_, _++_}
-use mathlib.Core.Logic.{_⊎_, inl, inr}
 use Prim.Native.Nat.{ℕ, zero, suc, _+_, _-_, _<_, _≤_}
 use native.Mathlib.Omega.{arith}
-use lib.IntN.{ℤ, pos}
 use lib.ListN.{length, getD, take, length-append}
 use lib.Seq.{length-take-le, getD-take}
 use lib.Dec.{eqb}
 use Rattle.std.proofs.shelf.Tests.{ne-eqb}
 use Rattle.sheet.specs.Sheet.{Sheet}
-use Rattle.machine.specs.Command.{Sign, plus, minus, times, less, equal, Command, skip, _⨾_, set, combine, release, raise, ifVariable, ifCondition, while}
+use Rattle.machine.specs.Command.{plus, minus, times, less, equal, Command, skip, _⨾_, set, combine, release, raise, ifVariable, ifCondition, while}
 use Rattle.machine.specs.Memory.{Memory}
 use Rattle.machine.specs.Run.{Outcome, done, spent, Release, after, andThen, isZero, run}
 use Rattle.machine.proofs.Loops.{while-law}
 use Rattle.program.specs.declared.kept.Instruction.{Instruction}
-use Rattle.program.specs.Written.{letterOf}
 use Rattle.program.specs.Kept.{blank, instruction, linked, size, Placed}
-use Rattle.interpreter.specs.Plain.{plain}
+use Rattle.interpreter.specs.Parts.{plain, memoryAfter, Ends}
 use Rattle.std.specs.declared.option.Option.{Option}
 use Rattle.std.specs.declared.option.Option.the-variants.{Some, None}
-use Rattle.interpreter.specs.Meaning.{memoryAfter, Ends}
 
 -- the end of a run, without what permits stored
 pub data End : Type 0 where

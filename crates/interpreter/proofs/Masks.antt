@@ -1,5 +1,4 @@
 -- The masks of a sheet have what a run asks of them.
-use Prim.Native.Nat.{ℕ}
 use Rattle.lattice.specs.Lattice.{Lattice}
 use Rattle.sheet.specs.Sheet.{Sheet}
 use Rattle.flow.specs.declared.masks.FlowMasks.{FlowMasks}

@@ -1,11 +1,9 @@
--- What a pass owes to the machine: of the masks, of the memory, and of the answer.
+-- What a pass owes to the machine: which sheet the masks enforce, which memory a store stands for, and the answer.
 use mathlib.Core.List.{List}
 use mathlib.Core.Path.{_≡_}
 use Prim.Native.Nat.{ℕ, _-_}
 use lib.IntN.{ℤ, pos}
 use lib.ListN.{length, getD}
-use Rattle.std.specs.declared.option.Option.{Option}
-use Rattle.std.specs.declared.option.Option.the-variants.{Some, None}
 use Rattle.policy.specs.Policy.{wipes}
 use Rattle.policy.specs.Masks.{bit, members}
 use Rattle.sheet.specs.Sheet.{Sheet, policyOf, permitAt}
@@ -26,15 +24,6 @@ pub record Enforces (m : FlowMasks) (sh : Sheet) : Type 0 where
 -- the memory that a store's values and a mask of the conditions up stand for
 abbrev pub memoryOf : List ℤ → ℕ → Memory
 memoryOf xs u = record { values = λ v. getD xs v (pos 0); up = members u }
-
-abbrev pub memoryAfter : Outcome → Memory
-memoryAfter (done left m l) = m
-memoryAfter (spent m l) = m
-
--- the turns left over, none if the pass is spent, and the memory then, are the machine's
-abbrev pub Ends : Option ℕ → Memory → Outcome → Type 0
-Ends r now (done left m l) = (r ≡ Some left) × (now ≡ m)
-Ends r now (spent m l) = (r ≡ None) × (now ≡ m)
 
 -- the answer of a pass with so many turns, and the memory after it, are the machine's
 abbrev pub Answers : Ending × ℕ → ℕ → Memory → Outcome → Type 0

@@ -1,6 +1,6 @@
 // A pass over a program.
 ghost use mathlib.Core.Path.{_≡_};
-ghost use Prim.Native.Nat.{ℕ, _-_, _≤_};
+ghost use Prim.Native.Nat.{_≤_};
 ghost use lib.IntN.{pos};
 ghost use lib.ListN.{getD};
 ghost use Rattle.std.specs.Options.{valueOr};
@@ -9,8 +9,8 @@ ghost use Rattle.sheet.specs.Sheet.{Sheet, permitAt};
 ghost use Rattle.machine.specs.Command.{Command};
 ghost use Rattle.machine.specs.Run.{run, calculate, released, permitted, isZero};
 ghost use Rattle.program.specs.Kept.{Keeps, Placed};
-ghost use Rattle.interpreter.specs.Meaning.{Enforces, memoryOf, memoryAfter, Ends, Answers};
-ghost use Rattle.interpreter.specs.Plain.{plain, signOf};
+ghost use Rattle.interpreter.specs.Meaning.{Enforces, memoryOf, Answers};
+ghost use Rattle.interpreter.specs.Parts.{plain, signOf, memoryAfter, Ends};
 use crate::memory::raise;
 use crate::memory::write;
 use flow::FlowMasks;

@@ -12,22 +12,22 @@ ghost use Rattle.interpreter.specs.Meaning.{Enforces, memoryOf};
 use flow::FlowMasks;
 use store::Store;
 
-/// Writes a variable; the write is dropped while a condition that wipes the variable is up. From 64 on there is no variable.
+/// Writes a variable; the write is dropped while a condition that wipes the variable is up. From 64 on there is none to write.
 pub fn write<S: Store>(masks: &FlowMasks, store: &mut S, up: u16, variable: u8, value: i32)
     ensures memory { λ _. ⌜ ((sh : Sheet) → Enforces (now (masks .entry)) sh → variable < 64 →
         memoryOf (S·Store .values (now (store .exit))) up ≡ write sh variable value (memoryOf (S·Store .values (now (store .entry))) up)) ⌝ }
-    ensures nowhere { λ _. ⌜ (64 ≤ variable → now (store .exit) ≡ now (store .entry)) ⌝ }
+    ensures beyond { λ _. ⌜ (64 ≤ variable → now (store .exit) ≡ now (store .entry)) ⌝ }
 {
     if variable < 64 && masks.wipers[variable as usize] & up == 0 {
         store.put(variable as usize, value);
     }
 }
 
-/// Raises a condition: what it wipes becomes zero. From 16 on there is no condition.
+/// Raises a condition: what it wipes becomes zero. From 16 on there is none to raise.
 pub fn raise<S: Store>(masks: &FlowMasks, store: &mut S, up: &mut u16, condition: u8)
     ensures memory { λ _. ⌜ ((sh : Sheet) → Enforces (now (masks .entry)) sh → condition < 16 →
         memoryOf (S·Store .values (now (store .exit))) (now (up .exit)) ≡ raised sh condition (memoryOf (S·Store .values (now (store .entry))) (now (up .entry)))) ⌝ }
-    ensures nowhere { λ _. ⌜ (16 ≤ condition → (now (store .exit) ≡ now (store .entry)) × (now (up .exit) ≡ now (up .entry))) ⌝ }
+    ensures beyond { λ _. ⌜ (16 ≤ condition → (now (store .exit) ≡ now (store .entry)) × (now (up .exit) ≡ now (up .entry))) ⌝ }
 {
     if condition < 16 {
         wipe(masks, store, condition);

@@ -30,9 +30,18 @@ mod tests {
 
     #[test]
     fn every_letter_is_a_call() -> Result<(), Fail> {
-        check_eq(count(b"h\0\0\0\0\0\0\x01C\0\0\0\0\0\0\0l\0\0\0\0\0\0\0f\x05\0\0\xff\xff\xff\xff"), (3, true))?;
-        check_eq(count(b"u\x09\0\0\0\0\0\0d\x09\0\0\0\0\0\0p\0\0\0\0\0\0\x0a"), (3, true))?;
-        check_eq(count(b"k\x02\0\0\0\0\0\x01q\x02\0\0\0\0\0\x01i\0\0\0\0\0\0\x03"), (3, true))
+        check_eq(
+            count(b"h\0\0\0\0\0\0\x01C\0\0\0\0\0\0\0l\0\0\0\0\0\0\0f\x05\0\0\xff\xff\xff\xff"),
+            (3, true),
+        )?;
+        check_eq(
+            count(b"u\x09\0\0\0\0\0\0d\x09\0\0\0\0\0\0p\0\0\0\0\0\0\x0a"),
+            (3, true),
+        )?;
+        check_eq(
+            count(b"k\x02\0\0\0\0\0\x01q\x02\0\0\0\0\0\x01i\0\0\0\0\0\0\x03"),
+            (3, true),
+        )
     }
 
     #[test]
@@ -71,10 +80,54 @@ mod tests {
     #[test]
     fn answers_are_lines(rt: LibcRuntime) -> Result<(), Fail> {
         let heap = rt.alloc();
-        let refusal = Refusal { number: 16, place: 3, detail: 257 };
-        check_eq(format!(heap, "{}", Line { count: 0, answer: Answer::Number(-7) })?.as_str(), "0 ok -7")?;
-        check_eq(format!(heap, "{}", Line { count: 11, answer: Answer::Spent(2) })?.as_str(), "11 spent 2")?;
-        check_eq(format!(heap, "{}", Line { count: 4, answer: Answer::Done(0) })?.as_str(), "4 done 0")?;
-        check_eq(format!(heap, "{}", Line { count: 5, answer: Answer::Refused(refusal) })?.as_str(), "5 no 16 3 257")
+        let refusal = Refusal {
+            number: 16,
+            place: 3,
+            detail: 257,
+        };
+        check_eq(
+            format!(
+                heap,
+                "{}",
+                Line {
+                    count: 0,
+                    answer: Answer::Number(-7)
+                }
+            )?.as_str(),
+            "0 ok -7",
+        )?;
+        check_eq(
+            format!(
+                heap,
+                "{}",
+                Line {
+                    count: 11,
+                    answer: Answer::Spent(2)
+                }
+            )?.as_str(),
+            "11 spent 2",
+        )?;
+        check_eq(
+            format!(
+                heap,
+                "{}",
+                Line {
+                    count: 4,
+                    answer: Answer::Done(0)
+                }
+            )?.as_str(),
+            "4 done 0",
+        )?;
+        check_eq(
+            format!(
+                heap,
+                "{}",
+                Line {
+                    count: 5,
+                    answer: Answer::Refused(refusal)
+                }
+            )?.as_str(),
+            "5 no 16 3 257",
+        )
     }
 }

@@ -4,7 +4,7 @@ use Prim.Native.Nat.{ℕ}
 use lib.IntN.{ℤ}
 use Rattle.std.proofs.shelf.Signed.{wraps}
 use Rattle.machine.specs.Run.{calculate}
-use Rattle.interpreter.specs.Plain.{signOf}
+use Rattle.interpreter.specs.Parts.{signOf}
 use Rattle.interpreter.proofs.interpret.combine.Needs as need
 
 at : (l m : ℕ) (x y : ℤ) → l ≡ m → calculate (signOf m) x y ≡ calculate (signOf l) x y

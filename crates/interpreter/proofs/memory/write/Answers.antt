@@ -1,4 +1,4 @@
-use mathlib.Core.Path.{_≡_, refl, ap, _∙_}
+use mathlib.Core.Path.{refl, ap, _∙_}
 use borrow.Author.Needs.{needs}
 use Prim.Native.Nat.{_<_}
 use mir.Syntax.{w32}
@@ -21,7 +21,7 @@ returns-then-masks-variable-eq0 g c =
     let wrote = simp toZ-ofZ at (c .put .ensures .values) in
     record {
       memory = λ sh E h. ap (λ ys. memoryOf ys u) wrote ∙ write-lands (c .args .masks .now) sh E (c .args .variable) u (c .args .value) xs inside (c .if-masks-variable-eq0 .taken);
-      nowhere = λ h. absurd (omega (arith, c .if-variable-lt64 .taken));
+      beyond = λ h. absurd (omega (arith, c .if-variable-lt64 .taken));
     }
 
 pub returns-else-variable-lt64 : need.returns-else-variable-lt64
@@ -34,5 +34,5 @@ returns-else-variable-lt64 g c =
                 write-drops (c .args .masks .now) sh E (c .args .variable) (c .args .up) (c .args .value) xs (w .if-masks-variable-eq0 .left)
             | else-variable-lt64·by·else-variable-lt64 w ↦ absurd (omega (arith, w .if-variable-lt64 .left))
           ];
-      nowhere = λ h. refl;
+      beyond = λ h. refl;
     }
