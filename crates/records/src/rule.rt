@@ -18,3 +18,22 @@ pub const DECLARED_CONDITION: u8 = 7;
 pub const TREE_DEPTH: u8 = 8;
 
 pub const WIPERS_BELOW: u8 = 9;
+
+// calls
+pub const NEEDS_SHEET: u8 = 10;
+
+pub const MAY_BE_FED: u8 = 19;
+
+pub const NOT_WIPED: u8 = 20;
+
+pub const IS_CONDITION: u8 = 21;
+
+pub const NEEDS_PROGRAM: u8 = 22;
+
+pub const IS_LEVEL: u8 = 23;
+
+pub const IS_VARIABLE: u8 = 24;
+
+pub const MAY_KNOW: u8 = 25;
+
+pub const ROOM_FOR_IMAGE: u8 = 26;

@@ -1,0 +1,13 @@
+// The box.
+use crate::kept::KeptSheet;
+use lattice::Lattice;
+use store::Store;
+
+/// A box over a lattice and a store: its sheet, once one is accepted, and the conditions that are up, as a mask.
+#[derive(Drop)]
+pub struct SiteBox<L: Lattice, S: Store> {
+    pub(crate) lattice: L,
+    pub(crate) store: S,
+    pub(crate) sheet: Option<KeptSheet>,
+    pub(crate) up: u16,
+}
