@@ -1,22 +1,15 @@
 // Reads a stream of calls from standard input, and prints a line for each answer.
-ghost use mathlib.Core.Bool.{Bool, true, false};
-ghost use mathlib.Core.Path.{_≡_};
 ghost use lib.ListN.{length};
 ghost use Prim.Native.Nat.{_≤_};
-ghost use Rattle.std.specs.Results.{Cases};
 ghost use Rattle.std.specs.Vec.{made};
-ghost use Rattle.lattice.specs.Chain.{chain};
-ghost use Rattle.records.specs.Refusals.{refusal};
-ghost use Rattle.records.specs.Rules.{accepted, refused};
-ghost use Rattle.sheet.specs.Sheet.{Sheet};
-ghost use Rattle.sheet.specs.Rules.{sheetIn};
 use lattice::Chain;
 use lattice::ChainLattice;
 use records::Refusal;
-use records::rule;
-use sheet::read_sheet;
+use siteunit::SiteBox;
 use std::io;
 use std::io::Read;
+use store::DenseStore;
+use store::StoreDense;
 use stream::Answer;
 use stream::Call;
 use stream::Line;
@@ -26,19 +19,6 @@ use stream::next_call;
 
 // The most bytes of input that are read.
 const INPUT_BYTES: usize = 65536;
-
-// Until a box stands behind it: rule 1, and then the rules of sheets. Answers how many variables the sheet declares.
-fn take_sheet(had: bool, bytes: &[u8]) -> Result<u8, Refusal>
-    ensures { λ r. ⌜ Cases r
-        (λ n. (had ≡ false) × ((sh : Sheet) × (sheetIn (chain 3) (now (bytes .entry)) ≡ accepted sh) × (n ≡ length (sh .variables))))
-        (λ e. (had ≡ true → e ≡ refusal 1 0 0) × (had ≡ false → sheetIn (chain 3) (now (bytes .entry)) ≡ refused e)) ⌝ }
-{
-    if had {
-        return Err(Refusal::new(rule::NO_SHEET_YET, 0, 0));
-    }
-    let table = read_sheet(&Chain { top: 3 }, bytes)?;
-    Ok(table.variables as u8)
-}
 
 // Fills the buffer from the front, as far as there is input.
 fn read_input(input: &mut impl Read, buffer: &mut [u8]) -> io::Result<usize>
@@ -55,30 +35,51 @@ fn read_input(input: &mut impl Read, buffer: &mut [u8]) -> io::Result<usize>
     Ok(size)
 }
 
-// Serves the calls of a stream, a line each.
-fn serve(rt: &LibcRuntime, stream: &[u8]) -> io::Result<()> {
-    let mut left = stream;
-    let mut had_sheet = false;
-    for count in 0..=INPUT_BYTES / 8 {
-        match next_call(left) {
-            Next::Call(Call::Sheet(bytes), rest) => {
-                let answer = match take_sheet(had_sheet, bytes) {
-                    Ok(variables) => Answer::Number(variables as i32),
-                    Err(refusal) => Answer::Refused(refusal),
-                };
-                had_sheet = had_sheet || matches!(answer, Answer::Number(_));
-                rt.println(Line { count, answer })?;
-                left = rest;
-            }
-            Next::End => return Ok(()),
-            _ => return rt.println("stop"),
-        }
+// What the box answers, as a number; none where the call is not served yet.
+fn serve(site: &mut SiteBox<Chain, DenseStore>, call: Call) -> Option<Result<i32, Refusal>> {
+    match call {
+        Call::Sheet(bytes) => Some(number(site.sheet(bytes))),
+        Call::Feed { variable, value } => Some(zero(site.feed(variable, value))),
+        Call::Raise { condition } => Some(zero(site.raise(condition))),
+        Call::Lower { condition } => Some(zero(site.lower(condition))),
+        Call::Look { level, variable } => Some(site.look(level, variable)),
+        Call::Ask { level, condition } => Some(number(site.ask(level, condition))),
+        Call::Load(_) | Call::Pass { turns: _ } | Call::Image { level: _ } => None,
     }
-    Ok(())
+}
+
+fn number<T: Into<i32> + Drop>(result: Result<T, Refusal>) -> Result<i32, Refusal> {
+    match result {
+        Ok(value) => Ok(value.into()),
+        Err(refusal) => Err(refusal),
+    }
+}
+
+fn zero(result: Result<(), Refusal>) -> Result<i32, Refusal> {
+    match result {
+        Ok(()) => Ok(0),
+        Err(refusal) => Err(refusal),
+    }
 }
 
 fn main(rt: LibcRuntime) -> io::Result<()> {
     let mut buffer = vec![in rt.alloc(); 0u8; INPUT_BYTES]?;
     let size = read_input(&mut rt.stdin(), &mut buffer)?;
-    serve(&rt, &buffer[..size])
+    let mut left = &buffer[..size];
+    let mut site = SiteBox::new(Chain { top: 3 });
+    for count in 0..=INPUT_BYTES / 8 {
+        let (call, rest) = match next_call(left) {
+            Next::Call(call, rest) => (call, rest),
+            Next::End => return Ok(()),
+            Next::Stop => break,
+        };
+        let answer = match serve(&mut site, call) {
+            Some(Ok(number)) => Answer::Number(number),
+            Some(Err(refusal)) => Answer::Refused(refusal),
+            None => break,
+        };
+        rt.println(Line { count, answer })?;
+        left = rest;
+    }
+    rt.println("stop")
 }
