@@ -10,3 +10,10 @@ pub mod ContextMasks
 pub mod Usable
 pub mod Readers
 pub mod Placing
+pub mod LetterSteps
+pub mod Misfits
+pub mod Reaches
+pub mod RecordSteps
+pub mod Trailing
+pub mod BlockSteps
+pub mod ProgramSteps

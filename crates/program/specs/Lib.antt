@@ -1,9 +1,15 @@
 pub mod Written
 pub mod Kept
+pub mod Keeping
 pub mod Deciding
 pub mod Rules
+pub mod Letters
 pub mod Checks
+pub mod Misfits
+pub mod Contexts
 pub mod Valid
 pub mod Acceptance
-pub mod Examples
 pub mod Readers
+pub mod Reading
+pub mod Loading
+pub mod Examples

@@ -19,6 +19,23 @@ pub const TREE_DEPTH: u8 = 8;
 
 pub const WIPERS_BELOW: u8 = 9;
 
+// programs
+pub const PROGRAM_LENGTH: u8 = 11;
+
+pub const PROGRAM_LETTER: u8 = 12;
+
+pub const PROGRAM_FIELDS: u8 = 13;
+
+pub const DECLARED: u8 = 14;
+
+pub const NESTING: u8 = 15;
+
+pub const REACHING: u8 = 16;
+
+pub const LOOP_LOWEST: u8 = 17;
+
+pub const RELEASED: u8 = 18;
+
 // calls
 pub const NEEDS_SHEET: u8 = 10;
 
