@@ -2,7 +2,7 @@
 use mathlib.Core.Path.{_≡_, refl, sym, ap, _∙_, subst}
 use mathlib.Core.Bool.{true, false, _&&_}
 use mathlib.Core.List.{List, [], _∷_, _++_}
-use mathlib.Core.Logic.{_≢_}
+use mathlib.Core.Logic.{_≢_, _⊎_, inl, inr}
 use Prim.Native.Nat.{ℕ, _+_, _-_, _*_, _^_, _%_, _<_, _≤_}
 use native.Mathlib.Omega.{arith}
 use lib.Dec.{eqb, ltb}
@@ -31,7 +31,7 @@ use Rattle.program.specs.declared.kept.Instruction.{Instruction}
 use Rattle.program.specs.Kept.{blank, instruction, size, linked, Placed}
 use Rattle.program.specs.Keeping.{asWritten}
 use Rattle.program.specs.Rules.{Test, onVariable, onCondition, branch, Block, thenBlock, elseBlock, loopBlock, at, Kind, kind, sets, signs, releases, raises, variableTests, conditionTests, loops, ends, none, restZero, established, answer}
-use Rattle.program.specs.Contexts.{withVariable, withConditions}
+use Rattle.program.specs.Contexts.{withVariable, withConditions, insideOf}
 use Rattle.program.specs.Letters.{innermostOf}
 use Rattle.program.specs.Reading.{contextOf, Declared, Alike, Refused, Named, Passed, opening, Branches, Stand, Reads, Ends, BlockRead, endBytes}
 use Rattle.program.proofs.ContextMasks.{masked-variable, masked-condition}
@@ -310,7 +310,7 @@ module _ (m : FlowMasks) (pc : Masks) (opened : ℕ) (inner : Innermost) (place 
 -- ── a test and its two blocks ──
 
 module _ (m : FlowMasks) (pc : Masks) (opened : ℕ) (inner : Innermost) (place : ℕ) (r : Record) where
-  pub branches-variable : Passed m pc opened inner place r VariableTest → (inside : Masks) → inside ≡ withVariable (r .b) pc → Branches m pc opened inner place r (onVariable (r .b)) inside
+  branches-variable : Passed m pc opened inner place r VariableTest → (inside : Masks) → inside ≡ withVariable (r .b) pc → Branches m pc opened inner place r (onVariable (r .b)) inside
   branches-variable p inside e =
       let q = kind-found VariableTest (r .letter) inner (p .is) in
       let z = and-parts (eqb (r .a) 0) (eqb (r .c) 0 && eqb (r .n) 0) (sym (ap (restZero r) q) ∙ p .rest) in
@@ -323,7 +323,7 @@ module _ (m : FlowMasks) (pc : Masks) (opened : ℕ) (inner : Innermost) (place 
         goes = λ C sh blocks around A rs. p .goes C sh blocks around A rs ∙ ap (λ x. answer C sh (established (at place blocks (contextOf pc) around) r x) rs) q;
       }
 
-  pub branches-condition : Passed m pc opened inner place r ConditionTest → (inside : Masks) → inside ≡ withConditions ((1 * 2 ^ r .a) % 2 ^ 16) pc → Branches m pc opened inner place r (onCondition (r .a)) inside
+  branches-condition : Passed m pc opened inner place r ConditionTest → (inside : Masks) → inside ≡ withConditions ((1 * 2 ^ r .a) % 2 ^ 16) pc → Branches m pc opened inner place r (onCondition (r .a)) inside
   branches-condition p inside e =
       let q = kind-found ConditionTest (r .letter) inner (p .is) in
       let z = and-parts (eqb (r .b) 0) (eqb (r .c) 0 && eqb (r .n) 0) (sym (ap (restZero r) q) ∙ p .rest) in
@@ -335,6 +335,13 @@ module _ (m : FlowMasks) (pc : Masks) (opened : ℕ) (inner : Innermost) (place 
         declared = λ C sh blocks A. subst (Declared sh) (sym e) (declared-condition sh pc (r .a) small (subst (λ n. ltb (r .a) n ≡ true) (A .masks .conditions) (lt-ltb (r .a) (m .conditions) v)) (A .declared));
         goes = λ C sh blocks around A rs. p .goes C sh blocks around A rs ∙ ap (λ x. answer C sh (established (at place blocks (contextOf pc) around) r x) rs) q;
       }
+
+module _ (m : FlowMasks) (pc : Masks) (opened : ℕ) (inner : Innermost) (place : ℕ) (r : Record) where
+  pub branches : (k : RecordKind) (inside : Masks) → inside ≡ insideOf k r pc → Passed m pc opened inner place r k → (k ≡ VariableTest) ⊎ (k ≡ ConditionTest) → (t : Test) × Branches m pc opened inner place r t inside
+  branches k inside e h (inl q) =
+      (onVariable (r .b), branches-variable m pc opened inner place r (subst (Passed m pc opened inner place r) q h) inside (e ∙ ap (λ x. insideOf x r pc) q))
+  branches k inside e h (inr q) =
+      (onCondition (r .a), branches-condition m pc opened inner place r (subst (Passed m pc opened inner place r) q h) inside (e ∙ ap (λ x. insideOf x r pc) q))
 
 branch-linked : (t : Test) (c d : Command) → linked (branch t c d) ≡ opening t (size c + 1) ∷ (linked c ++ (instruction 74 0 0 (size d + 1) ∷ (linked d ++ (instruction 75 0 0 0 ∷ []))))
 branch-linked (onVariable v) c d = refl

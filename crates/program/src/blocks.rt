@@ -8,7 +8,8 @@ ghost use Rattle.std.specs.Results.{Cases};
 ghost use Rattle.std.specs.Vec.{made};
 ghost use Rattle.records.specs.Records.{records};
 ghost use Rattle.program.specs.declared.innermost.Innermost.{Innermost as AnyInnermost};
-ghost use Rattle.program.specs.declared.innermost.RecordKind.the-variants.{Mark};
+ghost use Rattle.program.specs.declared.innermost.RecordKind.the-variants.{Loop as While, Mark};
+ghost use Rattle.program.specs.Contexts.{withVariable, insideOf};
 ghost use Rattle.program.specs.Rules.{Test};
 ghost use Rattle.program.specs.Reading.{Refused, Passed, Branches, Reads, BlockRead, endBytes};
 use crate::checks::check_record;
@@ -73,6 +74,17 @@ pub(crate) fn check_block<'a>(
     }
 }
 
+// The context inside the blocks that a record opens.
+fn context_inside(kind: RecordKind, first: Record, context: Context) -> Context
+    ensures { λ r. ⌜ r ≡ insideOf kind first context ⌝ }
+{
+    match kind {
+        RecordKind::VariableTest | RecordKind::Loop => context.with_variable(first.b),
+        RecordKind::ConditionTest => context.with_conditions(condition_bit(first.a)),
+        _ => context,
+    }
+}
+
 // Checks the blocks of the command whose record is `first`, at `place`, and which goes on in front of `bytes`, and keeps it.
 fn check_command<'a>(
     masks: &FlowMasks,
@@ -91,50 +103,28 @@ fn check_command<'a>(
         (λ p. Reads (now (masks .entry)) (now (context .entry)) opened inner place (first ∷ records (now (bytes .entry))) (now (instructions .entry)) (now (instructions .exit)) (p .0) (records (now (p .1))))
         (λ e. Refused (now (masks .entry)) (now (context .entry)) opened inner place (first ∷ records (now (bytes .entry))) e)) ⌝ }
 {
+    let inside = context_inside(kind, first, *context);
     match kind {
-        RecordKind::VariableTest => {
-            let inside = context.with_variable(first.b);
-            check_branch(
-                masks,
-                first,
-                bytes,
-                place,
-                opened,
-                inside,
-                context,
-                instructions,
-            )
-        }
-        RecordKind::ConditionTest => {
-            let inside = context.with_conditions(condition_bit(first.a));
-            check_branch(
-                masks,
-                first,
-                bytes,
-                place,
-                opened,
-                inside,
-                context,
-                instructions,
-            )
-        }
-        RecordKind::Loop => {
-            let inside = context.with_variable(first.b);
-            let (end, rest) = check_block(
-                masks,
-                bytes,
-                place + 1,
-                opened + 1,
-                Innermost::Loop,
-                inside,
-                context,
-                instructions,
-            )?;
-            let way = (end - place) as u8;
-            instructions[place] = Instruction::jump(b'W', 0, first.b, way);
-            instructions[end] = Instruction::jump(b'K', 0, first.b, way);
-            Ok((end + 1, rest))
-        }
+        RecordKind::VariableTest | RecordKind::ConditionTest => check_branch(
+            masks,
+            first,
+            bytes,
+            place,
+            opened,
+            inside,
+            context,
+            instructions,
+        ),
+        RecordKind::Loop => check_loop(
+            masks,
+            first,
+            bytes,
+            place,
+            opened,
+            inside,
+            context,
+            instructions,
+        ),
         _ => {
             instructions[place] = Instruction::plain(first);
             Ok((place + 1, bytes))
@@ -170,18 +160,54 @@ fn check_branch<'a>(
         context,
         instructions,
     )?;
+    // The second block stands under the test again.
+    let again = inside;
     let (end, rest) = check_block(
         masks,
         second,
         middle + 1,
         opened + 1,
         Innermost::Second,
-        inside,
+        again,
         context,
         instructions,
     )?;
     instructions[place] = Instruction::jump(first.letter, first.a, first.b, (middle - place) as u8);
     instructions[middle] = Instruction::jump(b'J', 0, 0, (end - middle) as u8);
     instructions[end] = Instruction::jump(b'K', 0, 0, 0);
+    Ok((end + 1, rest))
+}
+
+// Checks and keeps the block of the loop whose record is `first`.
+fn check_loop<'a>(
+    masks: &FlowMasks,
+    first: Record,
+    bytes: &'a [u8],
+    place: usize,
+    opened: usize,
+    inside: Context,
+    context: &mut Context,
+    instructions: &mut [Instruction; 256],
+) -> Result<(usize, &'a [u8]), Refusal>
+    requires { ⌜ 8 * (place + 1) + length (now bytes) ≤ 2048 ⌝ ∗ ⌜ opened ≤ place ⌝ }
+    ensures restored { λ _. ⌜ now (context .exit) ≡ now (context .entry) ⌝ }
+    ensures forward { λ r. ⌜ made r (λ p. (8 * p .0 + length (now (p .1)) ≡ 8 * (place + 1) + length (now (bytes .entry))) × (place < p .0)) ⌝ }
+    ensures answer { λ r. ⌜ ((inner : AnyInnermost) → Passed (now (masks .entry)) (now (context .entry)) opened inner place first While → inside ≡ withVariable (first .b) (now (context .entry)) → Cases r
+        (λ p. Reads (now (masks .entry)) (now (context .entry)) opened inner place (first ∷ records (now (bytes .entry))) (now (instructions .entry)) (now (instructions .exit)) (p .0) (records (now (p .1))))
+        (λ e. Refused (now (masks .entry)) (now (context .entry)) opened inner place (first ∷ records (now (bytes .entry))) e)) ⌝ }
+{
+    let (end, rest) = check_block(
+        masks,
+        bytes,
+        place + 1,
+        opened + 1,
+        Innermost::Loop,
+        inside,
+        context,
+        instructions,
+    )?;
+    let way = (end - place) as u8;
+    instructions[place] = Instruction::jump(b'W', 0, first.b, way);
+    instructions[end] = Instruction::jump(b'K', 0, first.b, way);
     Ok((end + 1, rest))
 }

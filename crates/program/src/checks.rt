@@ -77,41 +77,25 @@ pub(crate) fn check_record(
     match kind {
         RecordKind::Set => {
             let target = check_set(first, place, masks.variables)?;
-            check_reach(
-                rule::REACHING,
-                place,
-                context,
-                masks.variable[target as usize],
-            )?;
+            let inflow = masks.variable[target as usize];
+            check_reach(rule::REACHING, place, context, inflow)?;
         }
         RecordKind::Sign => {
             let target = check_three(first, place, masks.variables, masks.variables)?;
             let reading = context.with_variable(first.c).with_variable(first.b);
-            check_reach(
-                rule::REACHING,
-                place,
-                reading,
-                masks.variable[target as usize],
-            )?;
+            let inflow = masks.variable[target as usize];
+            check_reach(rule::REACHING, place, reading, inflow)?;
         }
         RecordKind::Release => {
             let target = check_three(first, place, masks.variables, masks.permits)?;
-            check_release(
-                first,
-                place,
-                context,
-                masks.permit[first.c as usize],
-                masks.variable[target as usize],
-            )?;
+            let permit = masks.permit[first.c as usize];
+            let inflow = masks.variable[target as usize];
+            check_release(first, place, context, permit, inflow)?;
         }
         RecordKind::Raise => {
             let condition = check_raise(first, place, masks.conditions)?;
-            check_reach(
-                rule::REACHING,
-                place,
-                context,
-                masks.condition[condition as usize],
-            )?;
+            let inflow = masks.condition[condition as usize];
+            check_reach(rule::REACHING, place, context, inflow)?;
         }
         RecordKind::VariableTest => {
             check_variable_test(first, place, masks.variables, opened)?;
@@ -121,12 +105,8 @@ pub(crate) fn check_record(
         }
         RecordKind::Loop => {
             check_variable_test(first, place, masks.variables, opened)?;
-            check_reach(
-                rule::LOOP_LOWEST,
-                place,
-                context.with_variable(first.b),
-                masks.lowest,
-            )?;
+            let inside = context.with_variable(first.b);
+            check_reach(rule::LOOP_LOWEST, place, inside, masks.lowest)?;
         }
         RecordKind::Mark => check_mark(first, place)?,
         RecordKind::Misplaced => return Err(Refusal::new(rule::PROGRAM_LETTER, place, 0)),

@@ -1,3 +1,5 @@
+pub mod Images
+pub mod Loads
 pub mod Lowering
 pub mod Sheets
 pub mod Steps

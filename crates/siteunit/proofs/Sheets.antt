@@ -29,6 +29,7 @@ use Rattle.machine.specs.Memory.{cleared}
 use Rattle.machine.specs.Calls.{Call, Answer}
 use Rattle.machine.specs.Machine.{State, bare, begun}
 use Rattle.machine.proofs.Memories.{memory-ext}
+use Rattle.program.specs.declared.kept.Program.{Program}
 use Rattle.program.proofs.Readers.{reads-bytes}
 use Rattle.flow.specs.TableFlows.{FlowsOf}
 use Rattle.interpreter.specs.Meaning.{memoryOf}
@@ -40,10 +41,10 @@ pub is-none : (o : Option KeptSheet) → isSome o ≡ false → o ≡ None
 is-none None e = refl
 is-none (Some k) e = absurd (both-ways true e refl)
 
-pub sheet-refused : (C : Lattice) (image : List ℤ → List ℕ) (o : Option KeptSheet) (xs : List ℤ) (u : ℕ) (bytes : List ℕ) (e : Refusal) → o ≡ None → Each Byte bytes → SheetRefused C bytes e
-    → (st : State) → Stands C o xs u st → Goes C image o xs u st (Call.sheet bytes) (Answer.refused e)
-sheet-refused C image o xs u bytes e is b r =
-    without-sheet C image o xs u is (λ st. Goes C image o xs u st (Call.sheet bytes) (Answer.refused e)) (goes C image o xs u bare (Call.sheet bytes) (begun (refused e)) (ap begun (reads-bytes C bytes b ∙ r .answer)) is)
+pub sheet-refused : (C : Lattice) (image : List ℤ → List ℕ) (o : Option KeptSheet) (l : Option Program) (xs : List ℤ) (u : ℕ) (bytes : List ℕ) (e : Refusal) → o ≡ None → Each Byte bytes → SheetRefused C bytes e
+    → (st : State) → Stands C o l xs u st → Goes C image o l xs u st (Call.sheet bytes) (Answer.refused e)
+sheet-refused C image o l xs u bytes e is b r =
+    without-sheet C image o l xs u is (λ st. Goes C image o l xs u st (Call.sheet bytes) (Answer.refused e)) (goes C image o l xs u bare (Call.sheet bytes) (begun (refused e)) (ap begun (reads-bytes C bytes b ∙ r .answer)) is)
 
 zeros : (v : ℕ) → getD (replicate 64 (pos 0)) v (pos 0) ≡ pos 0
 zeros v = elim (cases-lt v 64) [ inl h ↦ getD-replicate 64 v (pos 0) (pos 0) h | inr h ↦ getD-past (replicate 64 (pos 0)) v (pos 0) h ]
@@ -60,18 +61,17 @@ module _ (C : Lattice) (t : SheetTable) (k : KeptSheet) (levels : k .levels ≡ 
     fed = λ v h. let l = ltb-true _ _ h in ap (λ a. a .fed) (access v (omega (arith, V .counts .1))) ∙ R .rows v l .fed;
   }
 
-  pub sheet-done : (image : List ℤ → List ℕ) (o : Option KeptSheet) (xs ys : List ℤ) (u : ℕ) (bytes : List ℕ) → o ≡ None → Each Byte bytes → SheetRead C bytes t → ys ≡ replicate 64 (pos 0)
-      → (st : State) → Stands C o xs u st → Goes C image (Some k) ys 0 st (Call.sheet bytes) (Answer.number (pos (k .masks .variables)))
-  sheet-done image o xs ys u bytes is b r e =
+  pub sheet-done : (image : List ℤ → List ℕ) (o : Option KeptSheet) (l : Option Program) (xs ys : List ℤ) (u : ℕ) (bytes : List ℕ) → o ≡ None → Each Byte bytes → SheetRead C bytes t → ys ≡ replicate 64 (pos 0)
+      → (st : State) → Stands C o l xs u st → Goes C image (Some k) None ys 0 st (Call.sheet bytes) (Answer.number (pos (k .masks .variables)))
+  sheet-done image o l xs ys u bytes is b r e =
       let sh = r .sheet in
       let K : KeepsSheet C sh k = keeps sh (r .represents) (r .valid) in
       let zero-at : (v : ℕ) → getD ys v (pos 0) ≡ pos 0 = λ v. ap (λ l. getD l v (pos 0)) e ∙ zeros v in
-      let done = goes C image (Some k) ys 0 bare (Call.sheet bytes) (begun (accepted sh)) (ap begun (reads-bytes C bytes b ∙ r .answer)) (record {
+      let done = goes C image (Some k) None ys 0 bare (Call.sheet bytes) (begun (accepted sh)) (ap begun (reads-bytes C bytes b ∙ r .answer)) (record {
         sheet = K;
-        program = refl;
+        program = tt;
         memory = memory-ext cleared (memoryOf ys 0) (λ v. sym (zero-at v)) (λ c. sym (bit-zero c));
         wiped = λ v _. zero-at v;
-        undeclared = λ v _. zero-at v;
       }) in
-      without-sheet C image o xs u is (λ st. Goes C image (Some k) ys 0 st (Call.sheet bytes) (Answer.number (pos (k .masks .variables))))
+      without-sheet C image o l xs u is (λ st. Goes C image (Some k) None ys 0 st (Call.sheet bytes) (Answer.number (pos (k .masks .variables))))
       (ap (λ n. Answer.number (pos n)) (K .masks .variables) ∙ done .0, done .1)

@@ -3,9 +3,9 @@ use mathlib.Core.Bool.{true, false}
 use mathlib.Core.List.{List}
 use mathlib.Core.Option as option
 use mathlib.Core.Path.{_≡_}
-use Prim.Native.Nat.{ℕ, _≤_}
+use Prim.Native.Nat.{ℕ}
 use lib.IntN.{ℤ, pos}
-use lib.ListN.{length, getD}
+use lib.ListN.{getD}
 use Rattle.std.specs.declared.option.Option.{Option}
 use Rattle.std.specs.declared.option.Option.the-variants.{Some, None}
 use Rattle.lattice.specs.Lattice.{Lattice}
@@ -19,6 +19,8 @@ use Rattle.machine.specs.SoundSheet.{HasVariable, HasCondition}
 use Rattle.machine.specs.Memory.{Memory}
 use Rattle.machine.specs.Machine.{State, bare, ready}
 use Rattle.flow.specs.Flows.{MasksOf}
+use Rattle.program.specs.declared.kept.Program.{Program}
+use Rattle.program.specs.Kept.{Keeps}
 use Rattle.interpreter.specs.Meaning.{memoryOf}
 use Rattle.policy.specs.Rows.{noLeaf}
 use Rattle.siteunit.specs.declared.kept.Access.{Access}
@@ -46,15 +48,20 @@ KeptAs C sh (Some k) = KeepsSheet C sh k
 abbrev pub WipedWhileUp : Sheet → List ℤ → ℕ → Type 0
 WipedWhileUp sh values up = (v : ℕ) → wipedBy (members up) (policyOf sh v) ≡ true → getD values v (pos 0) ≡ pos 0
 
--- With a sheet: it is kept, there is no program yet, the values and the conditions up are the machine's, and places without a
--- variable are zero.
-pub record Ready (C : Lattice) (kept : Option KeptSheet) (values : List ℤ) (up : ℕ) (sh : Sheet) (p : option.Option Command) (m : Memory) : Type 0 where
+-- the program that was loaded last, if any, as it is kept
+abbrev pub LoadedAs : option.Option Command → Option Program → Type 0
+LoadedAs option.none None = Unit {0}
+LoadedAs option.none (Some k) = ⊥
+LoadedAs (option.some c) None = ⊥
+LoadedAs (option.some c) (Some k) = Keeps k c
+
+-- With a sheet: it is kept, and so is the program; the values and the conditions up are the machine's.
+pub record Ready (C : Lattice) (kept : Option KeptSheet) (loaded : Option Program) (values : List ℤ) (up : ℕ) (sh : Sheet) (p : option.Option Command) (m : Memory) : Type 0 where
   pub sheet : KeptAs C sh kept
-  pub program : p ≡ option.none
+  pub program : LoadedAs p loaded
   pub memory : m ≡ memoryOf values up
   pub wiped : WipedWhileUp sh values up
-  pub undeclared : (v : ℕ) → length (sh .variables) ≤ v → getD values v (pos 0) ≡ pos 0
 
-abbrev pub Stands : Lattice → Option KeptSheet → List ℤ → ℕ → State → Type 0
-Stands C kept values up bare = kept ≡ None
-Stands C kept values up (ready sh p m) = Ready C kept values up sh p m
+abbrev pub Stands : Lattice → Option KeptSheet → Option Program → List ℤ → ℕ → State → Type 0
+Stands C kept loaded values up bare = kept ≡ None
+Stands C kept loaded values up (ready sh p m) = Ready C kept loaded values up sh p m

@@ -80,10 +80,10 @@ returns-in-Break-check-variable-test-2 c =
 pub returns-in-Break-check-reach-4 : need.returns-in-Break-check-reach-4
 returns-in-Break-check-reach-4 c =
     let p = err-from-errBy (c .from-residual-in-Break-check-reach-4 .result) (c .from-residual-in-Break-check-reach-4 .ensures .1) in
-    rw (p .1, p .2) (steps.reach-refused (c .args .masks .now) (c .args .context) (c .args .opened) (c .args .innermost) (c .args .place) (c .args .first) (steps.looping (c .args .masks .now) (c .args .context) (c .args .opened) (c .args .innermost) (c .args .place) (c .args .first) (c .in-Loop .ensures tt)) (c .in-Continue-check-variable-test-2 .field-0) (c .with-variable-in-Loop .result) (c .in-Continue-check-variable-test-2 .ensures tt) (c .with-variable-in-Loop .ensures) _ (c .in-Break-check-reach-4 .ensures tt))
+    rw (p .1, p .2) (steps.reach-refused (c .args .masks .now) (c .args .context) (c .args .opened) (c .args .innermost) (c .args .place) (c .args .first) (steps.looping (c .args .masks .now) (c .args .context) (c .args .opened) (c .args .innermost) (c .args .place) (c .args .first) (c .in-Loop .ensures tt)) (c .in-Continue-check-variable-test-2 .field-0) (c .with-variable-inside .result) (c .in-Continue-check-variable-test-2 .ensures tt) (c .with-variable-inside .ensures) _ (c .in-Break-check-reach-4 .ensures tt))
 
 pub returns-in-Continue-check-reach-4 : need.returns-in-Continue-check-reach-4
-returns-in-Continue-check-reach-4 c = steps.passed-as (c .args .masks .now) (c .args .context) (c .args .opened) (c .args .innermost) (c .args .place) (c .args .first) (c .in-Loop .is) (steps.reach-passed (c .args .masks .now) (c .args .context) (c .args .opened) (c .args .innermost) (c .args .place) (c .args .first) (steps.looping (c .args .masks .now) (c .args .context) (c .args .opened) (c .args .innermost) (c .args .place) (c .args .first) (c .in-Loop .ensures tt)) (c .in-Continue-check-variable-test-2 .field-0) (c .with-variable-in-Loop .result) (c .in-Continue-check-variable-test-2 .ensures tt) (c .with-variable-in-Loop .ensures) (c .in-Continue-check-reach-4 .ensures tt))
+returns-in-Continue-check-reach-4 c = steps.passed-as (c .args .masks .now) (c .args .context) (c .args .opened) (c .args .innermost) (c .args .place) (c .args .first) (c .in-Loop .is) (steps.reach-passed (c .args .masks .now) (c .args .context) (c .args .opened) (c .args .innermost) (c .args .place) (c .args .first) (steps.looping (c .args .masks .now) (c .args .context) (c .args .opened) (c .args .innermost) (c .args .place) (c .args .first) (c .in-Loop .ensures tt)) (c .in-Continue-check-variable-test-2 .field-0) (c .with-variable-inside .result) (c .in-Continue-check-variable-test-2 .ensures tt) (c .with-variable-inside .ensures) (c .in-Continue-check-reach-4 .ensures tt))
 
 pub returns-in-Break-check-mark : need.returns-in-Break-check-mark
 returns-in-Break-check-mark c =

@@ -2,9 +2,7 @@ use mathlib.Core.Path.{_≡_, refl, sym, ap, _∙_}
 use Prim.Native.Nat.{ℕ, _<_}
 use native.Mathlib.Omega.{arith}
 use borrow.Author.Needs.{needs}
-use lib.IntN.{pos}
-use lib.ListN.{length, getD}
-use lib.Seq.{getD-set-other}
+use lib.ListN.{length}
 use mir.Syntax.{w32}
 use mir.Val.{SFits}
 use Rattle.std.proofs.shelf.Signed.{toZ-ofZ}
@@ -23,7 +21,7 @@ returns-then-wipers-self-ne0 g c =
     let k = c .in-Some .sheet in
     let v = c .args .variable in
     let d = c .if-place-sheet .left in
-    obeys _ _ _ _ _ _ _ _ refl (λ e q. refl) (stays C (g .S·Store .image) (b .sheet) k (g .S·Store .values (b .store)) (b .up) (c .in-Some .is) _ _ _ (ap Answer.refused (c .broken-then-wipers-self-ne0 .ensures)) (λ sh p K.
+    obeys _ _ _ _ _ _ _ _ refl (λ e q. refl) (stays C (g .S·Store .image) (b .sheet) (b .program) k (g .S·Store .values (b .store)) (b .up) (c .in-Some .is) _ _ _ (ap Answer.refused (c .broken-then-wipers-self-ne0 .ensures)) (λ sh p K.
     yes _ _ _ (has-variable C sh k K v d) ∙ yes _ _ _ (is-fed C sh k K v _ d (c .if-not-sheet-place .left)) ∙ noes _ _ _ (is-wiped C sh k K v (b .up) (c .if-wipers-self-ne0 .taken))))
 
 pub returns : need.returns
@@ -39,7 +37,6 @@ returns g c =
     let within : v < length xs = omega (arith, k .masks .counts .1, long) in
     let fits : SFits w32 (c .args .value) = c .fits .value in
     let put = simp toZ-ofZ at (c .put .ensures .values) in
-    obeys _ _ _ _ _ _ _ _ refl (λ e q. accepts e q) (moves C (g .S·Store .image) (b .sheet) k xs u (c .in-Some .is) _ (g .S·Store .values (c .put .last .self)) u (λ sh. write sh v (c .args .value) (memoryOf xs u))
+    obeys _ _ _ _ _ _ _ _ refl (λ e q. accepts e q) (moves C (g .S·Store .image) (b .sheet) (b .program) k xs u (c .in-Some .is) _ (g .S·Store .values (c .put .last .self)) u (λ sh. write sh v (c .args .value) (memoryOf xs u))
     (λ sh p K. yes _ _ _ (has-variable C sh k K v d) ∙ yes _ _ _ (is-fed C sh k K v _ d (c .if-not-sheet-place .left)) ∙ yes _ _ _ (not-wiped C sh k K v u (c .if-wipers-self-ne0 .left)))
-    (λ sh K. ap (λ ys. memoryOf ys u) put ∙ write-lands (k .masks) sh (enforces C sh k K) v u (c .args .value) xs within (c .if-wipers-self-ne0 .left))
-    (λ sh K w l z. ap (λ ys. getD ys w (pos 0)) put ∙ getD-set-other xs v w (c .args .value) (pos 0) (λ e. omega (arith, K .masks .variables)) ∙ z))
+    (λ sh K. ap (λ ys. memoryOf ys u) put ∙ write-lands (k .masks) sh (enforces C sh k K) v u (c .args .value) xs within (c .if-wipers-self-ne0 .left)))

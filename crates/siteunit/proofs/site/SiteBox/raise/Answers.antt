@@ -3,7 +3,7 @@ use Prim.Native.Nat.{ℕ, _<_}
 use native.Mathlib.Omega.{arith}
 use Rattle.machine.specs.Memory.{raised}
 use Rattle.interpreter.specs.Meaning.{memoryOf}
-use Rattle.siteunit.proofs.Steps.{yes, moves, has-condition, enforces, still-zero, obeys, accepts}
+use Rattle.siteunit.proofs.Steps.{yes, moves, has-condition, enforces, obeys, accepts}
 use Rattle.siteunit.proofs.site.SiteBox.raise.Needs as need
 
 pub returns : need.returns
@@ -15,7 +15,6 @@ returns g c =
     let a = c .args .condition in
     let d : a < k .masks .conditions = c .if-condition-sheet .left in
     let few : a < 16 = omega (arith, k .masks .counts .0) in
-    obeys _ _ _ _ _ _ _ _ refl (λ e q. accepts e q) (moves C (g .S·Store .image) (b .sheet) k xs (b .up) (c .in-Some .is) _ (g .S·Store .values (c .raise .last .store)) (c .raise .last .up) (λ sh. raised sh a (memoryOf xs (b .up)))
+    obeys _ _ _ _ _ _ _ _ refl (λ e q. accepts e q) (moves C (g .S·Store .image) (b .sheet) (b .program) k xs (b .up) (c .in-Some .is) _ (g .S·Store .values (c .raise .last .store)) (c .raise .last .up) (λ sh. raised sh a (memoryOf xs (b .up)))
     (λ sh p K. yes _ _ _ (has-condition C sh k K a d))
-    (λ sh K. c .raise .ensures .memory sh (enforces C sh k K) few)
-    (λ sh K v l z. ap (λ m. m .values v) (c .raise .ensures .memory sh (enforces C sh k K) few) ∙ still-zero _ _ z))
+    (λ sh K. c .raise .ensures .memory sh (enforces C sh k K) few))

@@ -6,11 +6,10 @@ use lib.ListN.{length}
 use Rattle.std.proofs.shelf.Results.{err-from-errBy, made-from-err}
 use Rattle.records.specs.Records.{records}
 use Rattle.records.proofs.Eights.{records-short}
-use Rattle.program.specs.Rules.{onVariable, onCondition}
-use Rattle.program.specs.Contexts.{withConditions}
+use Rattle.program.specs.Contexts.{insideOf}
 use Rattle.program.specs.Reading.{endBytes}
 use Rattle.program.proofs.BlockSteps as steps
-use Rattle.program.proofs.blocks.+check_block+check_branch+check_command.Needs as need
+use Rattle.program.proofs.blocks.+check_block+check_branch+check_command+check_loop.Needs as need
 
 pub check-block-loop-first-holds : need.check-block-loop-first-holds
 check-block-loop-first-holds t c = (refl, omega arith, c .told-instructions, refl, steps.reads-none _ _ _ _ _ _ _)
@@ -114,42 +113,22 @@ check-branch-returns t c =
           steps.branch-reads _ _ _ inner _ (c .args .first) _ test _ T _ _ _ _ (c .in-Continue-middle .ensures tt .answer) _ _ _ (c .in-Continue-end .ensures tt .answer) _ _ _ l (c .jump .ensures) (c .jump-2 .ensures) (c .jump-3 .ensures);
     }
 
-pub check-command-returns-in-Break-end : need.check-command-returns-in-Break-end
-check-command-returns-in-Break-end t c = record {
-  restored = c .check-block .ensures .restored;
-  forward = made-from-err _ _ (c .from-residual .ensures .0);
-  answer = λ inner h n.
-      let p = err-from-errBy (c .from-residual .result) (c .from-residual .ensures .1) in
-      rw (p .1, p .2) (steps.loop-refused _ _ _ inner _ (c .args .first) _ _ (steps.passed-under _ _ inner refl (c .in-Loop .is) h) (c .with-variable-inside-in-Loop .ensures) _ (c .in-Break-end .ensures tt .answer));
-}
-
 pub check-command-returns-in-VariableTest : need.check-command-returns-in-VariableTest
 check-command-returns-in-VariableTest t c = record {
   restored = c .check-branch .ensures .restored;
   forward = c .check-branch .ensures .forward;
   answer = λ inner h n.
-      c .check-branch .ensures .answer inner (onVariable (c .args .first .b)) (steps.branches-variable _ _ _ inner _ (c .args .first) (steps.passed-under _ _ inner refl (c .in-VariableTest .is) h) _ (c .with-variable-inside .ensures));
+      let b = steps.branches _ _ _ inner _ (c .args .first) (c .args .kind) _ (c .context-inside-inside .ensures) h (c .in-VariableTest .is) in
+      c .check-branch .ensures .answer inner (b .0) (b .1);
 }
 
-pub check-command-returns-in-ConditionTest : need.check-command-returns-in-ConditionTest
-check-command-returns-in-ConditionTest t c = record {
-  restored = c .check-branch-in-ConditionTest .ensures .restored;
-  forward = c .check-branch-in-ConditionTest .ensures .forward;
+pub check-command-returns-in-Loop : need.check-command-returns-in-Loop
+check-command-returns-in-Loop t c = record {
+  restored = c .check-loop .ensures .restored;
+  forward = c .check-loop .ensures .forward;
   answer = λ inner h n.
-      c .check-branch-in-ConditionTest .ensures .answer inner (onCondition (c .args .first .a))
-      (steps.branches-condition _ _ _ inner _ (c .args .first) (steps.passed-under _ _ inner refl (c .in-ConditionTest .is) h) _ (c .with-conditions-inside .ensures ∙ ap (λ n. withConditions n (c .args .context .now)) (c .condition-bit .ensures)));
+      c .check-loop .ensures .answer inner (steps.passed-under _ _ inner refl (c .in-Loop .is) h) (c .context-inside-inside .ensures ∙ ap (λ k. insideOf k (c .args .first) (c .args .context .now)) (c .in-Loop .is));
 }
-
-pub check-command-returns-in-Continue-end : need.check-command-returns-in-Continue-end
-check-command-returns-in-Continue-end t c =
-    let f = c .in-Continue-end .ensures tt .forward in
-    let l : c .in-Continue-end .end < length (c .check-block .last .instructions) = search needs in
-    record {
-      restored = c .check-block .ensures .restored;
-      forward = (omega (arith, f .0), omega (arith, f .1));
-      answer = λ inner h n.
-          steps.loop-reads _ _ _ inner _ (c .args .first) _ _ (steps.passed-under _ _ inner refl (c .in-Loop .is) h) (c .with-variable-inside-in-Loop .ensures) _ _ _ _ (c .in-Continue-end .ensures tt .answer) _ _ l (c .jump .ensures) (c .jump-in-Loop .ensures);
-    }
 
 pub check-command-returns-in-rest : need.check-command-returns-in-rest
 check-command-returns-in-rest t c =
@@ -159,4 +138,24 @@ check-command-returns-in-rest t c =
       forward = (refl, omega arith);
       answer = λ inner h n.
           steps.plain-reads _ _ _ inner _ (c .args .first) _ _ l (c .args .kind) _ (c .plain .ensures) h (c .in-rest .not-VariableTest) (c .in-rest .not-ConditionTest) (c .in-rest .not-Loop) n;
+    }
+
+pub check-loop-returns-in-Break-end : need.check-loop-returns-in-Break-end
+check-loop-returns-in-Break-end t c = record {
+  restored = c .check-block .ensures .restored;
+  forward = made-from-err _ _ (c .from-residual .ensures .0);
+  answer = λ inner h e.
+      let p = err-from-errBy (c .from-residual .result) (c .from-residual .ensures .1) in
+      rw (p .1, p .2) (steps.loop-refused _ _ _ inner _ (c .args .first) _ _ h e _ (c .in-Break-end .ensures tt .answer));
+}
+
+pub check-loop-returns : need.check-loop-returns
+check-loop-returns t c =
+    let f = c .in-Continue-end .ensures tt .forward in
+    let l : c .in-Continue-end .end < length (c .check-block .last .instructions) = search needs in
+    record {
+      restored = c .check-block .ensures .restored;
+      forward = (omega (arith, f .0), omega (arith, f .1));
+      answer = λ inner h e.
+          steps.loop-reads _ _ _ inner _ (c .args .first) _ _ h e _ _ _ _ (c .in-Continue-end .ensures tt .answer) _ _ l (c .jump .ensures) (c .jump-2 .ensures);
     }

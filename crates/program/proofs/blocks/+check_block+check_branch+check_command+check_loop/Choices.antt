@@ -3,7 +3,7 @@ use Prim.Native.Nat.{_+_, _*_, _≤_}
 use lib.ListN.{length}
 use Rattle.records.specs.Records.{records}
 use Rattle.program.specs.Reading.{Reads}
-use Rattle.program.proofs.blocks.+check_block+check_branch+check_command.Given as given
+use Rattle.program.proofs.blocks.+check_block+check_branch+check_command+check_loop.Given as given
 
 abbrev pub μ-check-block : given.MeasureT-check-block
 μ-check-block l = 3 * length (l .bytes .now)
@@ -13,6 +13,9 @@ abbrev pub μ-check-branch : given.MeasureT-check-branch
 
 abbrev pub μ-check-command : given.MeasureT-check-command
 μ-check-command l = 3 * length (l .bytes .now) + 2
+
+abbrev pub μ-check-loop : given.MeasureT-check-loop
+μ-check-loop l = 3 * length (l .bytes .now) + 1
 
 abbrev pub Inv-check-block-loop-first : given.InvT-check-block-loop-first
 Inv-check-block-loop-first l =
