@@ -1,11 +1,11 @@
-// Reads a stream of calls from standard input, and prints a line for each answer.
+// Reads a stream of calls from standard input, makes them on a new box, and prints a line for each answer.
 ghost use lib.ListN.{length};
 ghost use Prim.Native.Nat.{_≤_};
 ghost use Rattle.std.specs.Vec.{made};
 use lattice::Chain;
 use lattice::ChainLattice;
-use records::Refusal;
-use siteunit::SiteBox;
+use session::run;
+use std::alloc::AllocError;
 use std::io;
 use std::io::Read;
 use store::DenseStore;
@@ -35,51 +35,34 @@ fn read_input(input: &mut impl Read, buffer: &mut [u8]) -> io::Result<usize>
     Ok(size)
 }
 
-// What the box answers, as a number; none where the call is not served yet.
-fn serve(site: &mut SiteBox<Chain, DenseStore>, call: Call) -> Option<Result<i32, Refusal>> {
-    match call {
-        Call::Sheet(bytes) => Some(number(site.sheet(bytes))),
-        Call::Feed { variable, value } => Some(zero(site.feed(variable, value))),
-        Call::Raise { condition } => Some(zero(site.raise(condition))),
-        Call::Lower { condition } => Some(zero(site.lower(condition))),
-        Call::Look { level, variable } => Some(site.look(level, variable)),
-        Call::Ask { level, condition } => Some(number(site.ask(level, condition))),
-        Call::Load(_) | Call::Pass { turns: _ } | Call::Image { level: _ } => None,
+// Adds the calls of the stream to the list, up to its end or to what is no call; whether it was the end.
+fn decode<'a>(stream: &'a [u8], calls: &mut Vec<Call<'a>>) -> Result<bool, AllocError> {
+    let mut left = stream;
+    for _ in 0..=stream.len() {
+        match next_call(left) {
+            Next::Call(call, rest) => {
+                calls.push(call)?;
+                left = rest;
+            }
+            Next::End => return Ok(true),
+            Next::Stop => return Ok(false),
+        }
     }
-}
-
-fn number<T: Into<i32> + Drop>(result: Result<T, Refusal>) -> Result<i32, Refusal> {
-    match result {
-        Ok(value) => Ok(value.into()),
-        Err(refusal) => Err(refusal),
-    }
-}
-
-fn zero(result: Result<(), Refusal>) -> Result<i32, Refusal> {
-    match result {
-        Ok(()) => Ok(0),
-        Err(refusal) => Err(refusal),
-    }
+    Ok(false)
 }
 
 fn main(rt: LibcRuntime) -> io::Result<()> {
     let mut buffer = vec![in rt.alloc(); 0u8; INPUT_BYTES]?;
     let size = read_input(&mut rt.stdin(), &mut buffer)?;
-    let mut left = &buffer[..size];
-    let mut site = SiteBox::new(Chain { top: 3 });
-    for count in 0..=INPUT_BYTES / 8 {
-        let (call, rest) = match next_call(left) {
-            Next::Call(call, rest) => (call, rest),
-            Next::End => return Ok(()),
-            Next::Stop => break,
-        };
-        let answer = match serve(&mut site, call) {
-            Some(Ok(number)) => Answer::Number(number),
-            Some(Err(refusal)) => Answer::Refused(refusal),
-            None => break,
-        };
-        rt.println(Line { count, answer })?;
-        left = rest;
+    let mut calls = Vec::new(rt.alloc());
+    let ended = decode(&buffer[..size], &mut calls)?;
+    let mut answers = vec![in rt.alloc(); Answer::Number(0); calls.len()]?;
+    run::<Chain, DenseStore>(Chain { top: 3 }, calls.as_slice(), &mut answers);
+    for (count, answer) in answers.iter().enumerate() {
+        rt.println(Line {
+            count,
+            answer: *answer,
+        })?;
     }
-    rt.println("stop")
+    if ended { Ok(()) } else { rt.println("stop") }
 }

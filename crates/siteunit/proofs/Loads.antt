@@ -29,6 +29,6 @@ module _ (C : Lattice) (lawful : Lawful C) (image : List ℤ → List ℕ) (o : 
   load-done q r = with-sheet C image o l k xs u is (λ st. Goes C image o (Some q) xs u st (Call.load bytes) (count (q .count))) (λ sh p R K.
       let stood = at C image o l k xs u is sh p in
       let done = goes C image o (Some q) xs u stood (Call.load bytes) (loaded sh p (memoryOf xs u) bytes (accepted (r .command)))
-          (ap (loaded sh p (memoryOf xs u) bytes) (r .answer C sh lawful (valid-usable C sh (K .valid)) (K .masks)))
-          (record { sheet = R .sheet; program = r .keeps; memory = refl; wiped = R .wiped }) in
+      (ap (loaded sh p (memoryOf xs u) bytes) (r .answer C sh lawful (valid-usable C sh (K .valid)) (K .masks)))
+      (record { sheet = R .sheet; program = r .keeps; memory = refl; wiped = R .wiped }) in
       (ap count (r .count) ∙ done .0, done .1))

@@ -123,7 +123,7 @@ impl<L: Lattice, S: Store> SiteBox<L, S> {
     }
 
     /// Takes a program that is valid under the sheet, in place of the one before; answers how many records it has.
-    pub fn load(&mut self, bytes: &[u8]) -> Result<usize, Refusal>
+    pub fn load(&mut self, bytes: &[u8]) -> Result<u16, Refusal>
         ensures { λ r. ⌜ Obeys (L·Lattice .lattice) (S·Store .values) (S·Store .image) count (now (self .entry)) (now (self .exit)) (Call.load (now (bytes .entry))) r ⌝ }
     {
         let Some(sheet) = &self.sheet else {
@@ -131,7 +131,7 @@ impl<L: Lattice, S: Store> SiteBox<L, S> {
         };
         let program = read_program(&sheet.masks, bytes)?;
         self.program = Some(program);
-        Ok(program.count)
+        Ok(program.count as u16)
     }
 
     /// Writes a variable that the outside may feed.

@@ -5,6 +5,7 @@ mod decode;
 mod lines;
 
 pub use answers::Answer;
+pub use answers::ImageBytes;
 pub use answers::Line;
 pub use calls::Call;
 pub use calls::Next;

@@ -13,7 +13,7 @@ returns-then-not-all-below g c =
     let k = c .in-Some .sheet in
     record {
       obeys = obeys _ _ _ _ _ _ _ _ refl (λ e q. refl) (stays C (g .S·Store .image) (b .sheet) (b .program) k (g .S·Store .values (b .store)) (b .up) (c .in-Some .is) _ _ _ (ap Answer.refused (c .broken-then-not-all-below .ensures)) (λ sh p K.
-      yes _ _ _ (sym (c .if-not-known .ensures tt)) ∙ noes _ _ _ (all-readable C sh k K (c .args .level) _ (sym (c .if-not-all-below .ensures tt)))));
+          yes _ _ _ (sym (c .if-not-known .ensures tt)) ∙ noes _ _ _ (all-readable C sh k K (c .args .level) _ (sym (c .if-not-all-below .ensures tt)))));
       fills = untouched _ _ _ _ refl;
     }
 
@@ -25,8 +25,8 @@ returns-then-buffer-size g c =
     let xs = g .S·Store .values (b .store) in
     record {
       obeys = obeys _ _ _ _ _ _ _ _ refl (λ e q. refl) (stays C (g .S·Store .image) (b .sheet) (b .program) k xs (b .up) (c .in-Some .is) _ _ _ (ap Answer.refused (c .broken-then-buffer-size .ensures)) (λ sh p K.
-      yes _ _ _ (sym (c .if-not-known .ensures tt)) ∙ yes _ _ _ (all-readable C sh k K (c .args .level) _ (sym (c .if-not-all-below .ensures tt)))
-      ∙ noes _ _ _ (too-short (g .S·Store .image) xs (b .up) (g .S·Store·met .long (b .store)) _ _ (c .if-buffer-size .taken) (c .image-len-size .ensures))));
+          yes _ _ _ (sym (c .if-not-known .ensures tt)) ∙ yes _ _ _ (all-readable C sh k K (c .args .level) _ (sym (c .if-not-all-below .ensures tt)))
+          ∙ noes _ _ _ (too-short (g .S·Store .image) xs (b .up) (g .S·Store·met .long (b .store)) _ _ (c .if-buffer-size .taken) (c .image-len-size .ensures))));
       fills = untouched _ _ _ _ refl;
     }
 
@@ -42,8 +42,8 @@ returns g c =
     let whole = c .image-len-size .ensures in
     record {
       obeys = obeys _ _ _ _ _ _ _ _ refl (λ e q. accepts e q) (stays C image (b .sheet) (b .program) k xs (b .up) (c .in-Some .is) _ _ _ (ap Answer.bytes (front (image xs) old _ _ whole (c .draw .ensures))) (λ sh p K.
-      yes _ _ _ (sym (c .if-not-known .ensures tt)) ∙ yes _ _ _ (all-readable C sh k K (c .args .level) _ (sym (c .if-not-all-below .ensures tt)))
-      ∙ yes _ _ _ (has-room image xs (b .up) long _ _ (c .if-buffer-size .left) whole)
-      ∙ ap (λ bs. answered (at C image (b .sheet) (b .program) k xs (b .up) (c .in-Some .is) sh p) (Answer.bytes bs)) (shown image xs (b .up) long)));
+          yes _ _ _ (sym (c .if-not-known .ensures tt)) ∙ yes _ _ _ (all-readable C sh k K (c .args .level) _ (sym (c .if-not-all-below .ensures tt)))
+          ∙ yes _ _ _ (has-room image xs (b .up) long _ _ (c .if-buffer-size .left) whole)
+          ∙ ap (λ bs. answered (at C image (b .sheet) (b .program) k xs (b .up) (c .in-Some .is) sh p) (Answer.bytes bs)) (shown image xs (b .up) long)));
       fills = fills (image xs) old _ _ whole (c .draw .ensures) (c .if-buffer-size .left);
     }
