@@ -219,6 +219,28 @@ fn releases_keep_to_their_permit(rt: LibcRuntime) -> Result<(), Fail> {
     refused(&permit_sheet(rt.alloc(), 0, 0, 3, 1)?, &release, 18, 0, 0)
 }
 
+// The first record sets variable 0 of the sheet's level 0, and 255 more count with it.
+#[test]
+fn all_256_records_run(rt: LibcRuntime) -> Result<(), Fail> {
+    let mut sheet = Draft::new(rt.alloc());
+    for number in 0..2 {
+        sheet.variable(number, 0)?;
+        sheet.leaf(0)?;
+    }
+    let mut program = Draft::new(rt.alloc());
+    program.set(0, 1)?;
+    for _ in 0..255 {
+        program.command(b'+', 1, 1, 0)?;
+    }
+    let mut site = site(&sheet)?;
+    check(site.load(program.bytes.as_slice()).is_ok())?;
+    check(site.pass(0).is_ok())?;
+    match site.look(0, 1) {
+        Ok(value) => check_eq(value, 255),
+        Err(_) => Err(Fail::new("not seen")),
+    }
+}
+
 // A program branches on a vehicle's tag, which condition 0 wipes, and sets a count in the branch: the count would still tell
 // tags apart when they are gone. It is refused, unless the count is wiped too.
 #[test]

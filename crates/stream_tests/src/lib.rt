@@ -5,6 +5,7 @@ mod tests {
     use std::test::*;
     use stream::Answer;
     use stream::Call;
+    use stream::ImageBytes;
     use stream::Line;
     use stream::LineDisplay;
     use stream::Next;
@@ -128,6 +129,27 @@ mod tests {
                 }
             )?.as_str(),
             "5 no 16 3 257",
+        )
+    }
+
+    #[test]
+    fn images_are_lines(rt: LibcRuntime) -> Result<(), Fail> {
+        let heap = rt.alloc();
+        let mut buffer = [0; 320];
+        buffer[1] = 10;
+        buffer[2] = 255;
+        buffer[3] = 1;
+        let image = ImageBytes { size: 3, buffer };
+        check_eq(
+            format!(
+                heap,
+                "{}",
+                Line {
+                    count: 6,
+                    answer: Answer::Image(image)
+                }
+            )?.as_str(),
+            "6 ok 000aff",
         )
     }
 }
