@@ -10,7 +10,7 @@ use Rattle.machine.specs.Memory.{Memory}
 use Rattle.machine.specs.Calls.{Call}
 use Rattle.machine.specs.Machine.{Readers, System, State, bare, history, final}
 use Rattle.machine.specs.Observation.{SameInput, observedAnswers}
-use Rattle.machine.specs.Promises.{AllUp, SoundReaders, SameKind, observing, HiddenCallsLeaveNoTrace, WipedValuesLeaveNoTrace}
+use Rattle.machine.specs.Promises.{AllUp, SoundReaders, SameKind, observing, HiddenCallsLeaveNoTrace, WipedValuesLeaveNoTrace, HiddenLeaveNoTrace, WipedLeaveNoTrace}
 use Rattle.machine.proofs.Policies.{lifted-wiped, wiped-more}
 use Rattle.machine.proofs.Memories.{visible, sees, Agree}
 use Rattle.machine.proofs.Wiping.{Clean, CleanState, clean-final}
@@ -43,29 +43,14 @@ module _ (S : System) (level : ℕ) (s : Set) where
   uncover (readies {sh = sh} {p = p} {m = m} {m′ = m′} A w a) u u′ z z′ = readies {p = p} A w (uncovered sh m m′ u u′ z z′ a)
 
 -- the promises on two given systems
-abbrev Hides : System → System → Type 0
-Hides S T =
-    (level : ℕ) → Known (S .lattice) level → (s : Set) (cs ds : List Call) →
-    SameInput (S .lattice) (T .lattice) (observing level s) (history S bare cs) (history T bare ds) →
-    observedAnswers (S .lattice) (observing level s) (history S bare cs) ≡ observedAnswers (T .lattice) (observing level s) (history T bare ds)
-
-abbrev Forgets : System → System → Type 0
-Forgets S T =
-    (level : ℕ) → Known (S .lattice) level → (s : Set) (cs ds cs′ ds′ : List Call) →
-    AllUp s (final S bare cs) → AllUp s (final T bare ds) →
-    SameInput (S .lattice) (T .lattice) (observing level s) (history S bare cs) (history T bare ds) →
-    SameInput (S .lattice) (T .lattice) (observing level none) (history S (final S bare cs) cs′) (history T (final T bare ds) ds′) →
-    observedAnswers (S .lattice) (observing level none) (history S (final S bare cs) cs′)
-    ≡ observedAnswers (T .lattice) (observing level none) (history T (final T bare ds) ds′)
-
 module _ (S : System) (W : Lawful (S .lattice)) (R : SoundReaders (S .readers)) where
   setting : (level : ℕ) (s : Set) → Known (S .lattice) level → Setting S (observing level s)
   setting level s K = record { lawful = W; readers = R; level = K }
 
-  hides : Hides S S
+  hides : HiddenLeaveNoTrace S S
   hides level K s cs ds a = follow (setting level s K) cs ds bare bare bares (a .calls) (a .releases) .answers
 
-  forgets : Forgets S S
+  forgets : WipedLeaveNoTrace S S
   forgets level K s cs ds cs′ ds′ u u′ a a′ =
       let f = follow (setting level s K) cs ds bare bare bares (a .calls) (a .releases) in
       let t = uncover S level s (f .twin) u u′ (clean-final S bare cs tt) (clean-final S bare ds tt) in
@@ -84,7 +69,7 @@ module _ (R : Readers) (sound : SoundReaders R) where
   }
 
   pub hidden-calls : HiddenCallsLeaveNoTrace R
-  hidden-calls S T k = subst (Hides S) (same-system k) (hides S (k .lawful) (sound-here k))
+  hidden-calls S T k = subst (HiddenLeaveNoTrace S) (same-system k) (hides S (k .lawful) (sound-here k))
 
   pub wiped-values : WipedValuesLeaveNoTrace R
-  wiped-values S T k = subst (Forgets S) (same-system k) (forgets S (k .lawful) (sound-here k))
+  wiped-values S T k = subst (WipedLeaveNoTrace S) (same-system k) (forgets S (k .lawful) (sound-here k))

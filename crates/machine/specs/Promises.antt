@@ -48,21 +48,26 @@ abbrev pub observing : ℕ → Set → Observer
 observing level s = record { level = level; set = s }
 
 -- Strike from two lists of calls all that is hidden from a level under a set. If what remains went in alike, it is answered alike.
-abbrev pub HiddenCallsLeaveNoTrace : Readers → Type 0
-HiddenCallsLeaveNoTrace R =
-    (S T : System) → SameKind R S T →
+abbrev pub HiddenLeaveNoTrace : System → System → Type 0
+HiddenLeaveNoTrace S T =
     (level : ℕ) → Known (S .lattice) level → (s : Set) (cs ds : List Call) →
     SameInput (S .lattice) (T .lattice) (observing level s) (history S bare cs) (history T bare ds) →
     observedAnswers (S .lattice) (observing level s) (history S bare cs) ≡ observedAnswers (T .lattice) (observing level s) (history T bare ds)
 
 -- Cut each list once, where the whole set is up. If what remains before the cuts under the set went in alike, and what remains after
 -- them under the empty set, then what remains after them is answered alike: what the set wiped is gone for good.
-abbrev pub WipedValuesLeaveNoTrace : Readers → Type 0
-WipedValuesLeaveNoTrace R =
-    (S T : System) → SameKind R S T →
+abbrev pub WipedLeaveNoTrace : System → System → Type 0
+WipedLeaveNoTrace S T =
     (level : ℕ) → Known (S .lattice) level → (s : Set) (cs ds cs′ ds′ : List Call) →
     AllUp s (final S bare cs) → AllUp s (final T bare ds) →
     SameInput (S .lattice) (T .lattice) (observing level s) (history S bare cs) (history T bare ds) →
     SameInput (S .lattice) (T .lattice) (observing level none) (history S (final S bare cs) cs′) (history T (final T bare ds) ds′) →
     observedAnswers (S .lattice) (observing level none) (history S (final S bare cs) cs′)
     ≡ observedAnswers (T .lattice) (observing level none) (history T (final T bare ds) ds′)
+
+-- of every two boxes of one kind
+abbrev pub HiddenCallsLeaveNoTrace : Readers → Type 0
+HiddenCallsLeaveNoTrace R = (S T : System) → SameKind R S T → HiddenLeaveNoTrace S T
+
+abbrev pub WipedValuesLeaveNoTrace : Readers → Type 0
+WipedValuesLeaveNoTrace R = (S T : System) → SameKind R S T → WipedLeaveNoTrace S T
