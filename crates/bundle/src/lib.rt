@@ -1,4 +1,6 @@
 // Bundles: many streams of calls in one file, each with the lattice and the store that it is run over.
+#![tactic(auto)]
+
 mod outcomes;
 mod playing;
 mod reading;

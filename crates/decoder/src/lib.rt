@@ -1,4 +1,6 @@
 // All calls of a stream.
+#![tactic(auto)]
+
 ghost use Rattle.std.specs.Prelude.{IfOk};
 ghost use Rattle.decoder.specs.Decoding.{Decoded};
 

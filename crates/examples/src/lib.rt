@@ -1,4 +1,6 @@
 // Worked examples as theorems: each is named in a contract, so without its proof the crate fails.
+#![tactic(auto)]
+
 ghost use Rattle.std.specs.Prelude.{◌≡◌};
 ghost use Rattle.examples.specs.Worked.{WorkedExamples};
 

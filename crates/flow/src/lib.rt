@@ -1,4 +1,6 @@
 // What may flow where under a sheet, as masks.
+#![tactic(auto)]
+
 mod inflow;
 mod masks;
 mod tables;

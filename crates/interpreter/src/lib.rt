@@ -1,4 +1,6 @@
 // Runs an accepted program on a store, under the sheet's wipers and permits.
+#![tactic(auto)]
+
 mod interpret;
 mod memory;
 

@@ -1,4 +1,6 @@
 // Passes over small programs, on both stores.
+#![tactic(auto)]
+
 #[cfg(test)]
 mod tests {
     use flow::{FlowMasks, Inflow, PermitFlow};

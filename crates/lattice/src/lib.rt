@@ -1,5 +1,7 @@
 // Lattices of security levels. A level is an unsigned 32-bit code; a lattice says which codes are known, how they are
 // ordered, and what their joins are.
+#![tactic(auto)]
+
 mod chain;
 mod reader_sets;
 

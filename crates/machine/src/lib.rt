@@ -1,4 +1,6 @@
 // What a box does, told as a machine: programs, calls and answers; and what is promised of every box.
+#![tactic(auto)]
+
 ghost use Rattle.machine.specs.Examples.{MachineExamples};
 ghost use Rattle.machine.specs.Laws.{MachineLaws};
 ghost use Rattle.machine.specs.Machine.{Readers};

@@ -1,4 +1,6 @@
 // Programs: the commands that a box runs, checked against the sheet before they are kept.
+#![tactic(auto)]
+
 mod blocks;
 mod checks;
 mod context;

@@ -1,4 +1,6 @@
 // Records of eight bytes, in which sheets, programs and calls are written, and the refusals that their readers give.
+#![tactic(auto)]
+
 mod refusal;
 pub mod rule;
 

@@ -1,4 +1,6 @@
 // Whole sessions, on both lattices and both stores.
+#![tactic(auto)]
+
 #[cfg(test)]
 mod tests {
     use lattice::{Chain, ReaderSets};

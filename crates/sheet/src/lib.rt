@@ -1,4 +1,6 @@
 // Policy sheets: which variables there are, who may know them and until when, and what may be declassified.
+#![tactic(auto)]
+
 mod items;
 mod letters;
 mod levels;

@@ -1,4 +1,6 @@
 // Reads a stream of calls from standard input, makes them on a new box, and prints a line for each answer.
+#![tactic(auto)]
+
 ghost use Rattle.std.specs.Prelude.{◌≤◌, length, IfOk};
 ghost use Rattle.sitebox.specs.Decoding.{Decoded};
 

@@ -1,4 +1,6 @@
 // A box is put to its calls, on both lattices and both stores.
+#![tactic(auto)]
+
 #[cfg(test)]
 mod tests {
     use interpreter::Ending;

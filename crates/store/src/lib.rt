@@ -1,4 +1,6 @@
 // Where a machine keeps its values: 64 signed numbers, and the bytes that stand for them in memory.
+#![tactic(auto)]
+
 mod dense;
 mod entries;
 mod entry;

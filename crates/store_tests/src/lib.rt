@@ -1,4 +1,6 @@
 // Tests of the two stores: each is put to many values, and then compared with a plain table of them.
+#![tactic(auto)]
+
 #[cfg(test)]
 mod tests {
     use std::process::Abort;

@@ -1,4 +1,6 @@
 // The stream of calls: call records in, answer lines out.
+#![tactic(auto)]
+
 mod answers;
 mod calls;
 mod decode;

@@ -1,4 +1,6 @@
 // Tests of the call stream: where it goes on, where it ends, and where it stops.
+#![tactic(auto)]
+
 #[cfg(test)]
 mod tests {
     use records::Refusal;

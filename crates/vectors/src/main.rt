@@ -1,4 +1,6 @@
 // Reads a bundle of streams from standard input, runs each on a new box, and prints all lines and which rules refused how often.
+#![tactic(auto)]
+
 use bundle::{note, play, split, times};
 use decoder::decode;
 use session::{Event, NO_EVENT};

@@ -11,8 +11,8 @@ loop-call-smaller c = shorter c.loop-call.left.now c.in-Call.rest.now c.in-Call.
 
 pub loop-call-preserved : goal.loop-call-preserved
 loop-call-preserved c =
-    subst (λ xs. Follow c.args.stream.now xs c.in-Call.rest.now) (sym c.in-ok-push.ensures.items)
+    subst (λ xs. Follow c.args.stream.now xs c.in-Call.rest.now) (sym c.in_ok-push.ensures.items)
     (one_more (vec_items c.loop-call.calls) c.in-Call.call c.loop-call.left.now c.in-Call.rest.now c.loop-call.invariant c.in-Call.ensures)
 
 pub returns : goal.returns
-returns c = decoded _ (vec_items c.loop-call.calls) c.loop-call.left.now c.is-empty.result c.next-call.result c.loop-call.invariant c.next-call.ensures c.in-default.not-Call c.is-empty.ensures
+returns c = decoded _ (vec_items c.loop-call.calls) c.loop-call.left.now c.is_empty.result c.next_call.result c.loop-call.invariant c.next_call.ensures c.in_default.not-Call c.is_empty.ensures

@@ -3,4 +3,4 @@ use Rattle.records.proofs.Eights.{records_more, length_more, bytes_more}
 use Rattle.records.proofs.next_record.Goals as goal
 
 pub returns-in-len8-up : goal.returns-in-len8-up
-returns-in-len8-up c = (length_more c.args.input.now (search rules), records_more c.args.input.now _ (search rules) c.from-be-bytes-n.ensures, bytes_more c.args.input.now _ (search rules) (λ i. (c.type-inv.input i).fits) c.from-be-bytes-n.ensures)
+returns-in-len8-up c = (length_more c.args.input.now (search rules), records_more c.args.input.now _ (search rules) c.from_be_bytes-n.ensures, bytes_more c.args.input.now _ (search rules) (λ i. (c.type_inv.input i).fits) c.from_be_bytes-n.ensures)

@@ -5,16 +5,16 @@ use Rattle.records.specs.Records.{Fit}
 use Rattle.bundle.proofs.Fronts.{nothing, too_short, no_setting, too_long, no_room, read}
 use Rattle.bundle.proofs.reading.next_stream.Goals as goal
 
-pub returns-then-is-empty : goal.returns-then-is-empty
-returns-then-is-empty c = nothing c.args.bundle.now (eqb-true _ 0 (sym c.if-is-empty.ensures))
+pub returns-then-is_empty : goal.returns-then-is_empty
+returns-then-is_empty c = nothing c.args.bundle.now (eqb-true _ 0 (sym c.if-is_empty.ensures))
 
-pub returns-in-default : goal.returns-in-default
-returns-in-default c = too_short c.args.bundle.now (λ e. let l : length c.args.bundle.now ≡ 0 = ap length e in absurd (search rules)) c.in-default.ensures
+pub returns-in_default : goal.returns-in_default
+returns-in_default c = too_short c.args.bundle.now (λ e. let l : length c.args.bundle.now ≡ 0 = ap length e in absurd (search rules)) c.in_default.ensures
 
-pub returns-in-default-setting-of : goal.returns-in-default-setting-of
-returns-in-default-setting-of c =
+pub returns-in_default-setting_of : goal.returns-in_default-setting_of
+returns-in_default-setting_of c =
     let f : Fit c.in-Some.head = search rules in
-    no_setting c.args.bundle.now c.in-Some.rest.now c.in-Some.head f c.in-Some.ensures.2 c.in-default-setting-of.ensures
+    no_setting c.args.bundle.now c.in-Some.rest.now c.in-Some.head f c.in-Some.ensures.2 c.in_default-setting_of.ensures
 
 pub returns-then-size-gt-STREAM-BYTES : goal.returns-then-size-gt-STREAM-BYTES
 returns-then-size-gt-STREAM-BYTES c =
@@ -32,4 +32,4 @@ returns c =
     let xs = c.in-Some.rest.now in
     let n = c.in-Some.head.n in
     let whole : xs ≡ take n xs ++ take (length xs - n) (drop n xs) = sym (take-append-drop n xs) ∙ ap (λ l. take n xs ++ l) (sym (take_all _ (drop n xs) (simp length-drop (omega arith)))) in
-    read c.args.bundle.now xs c.in-Some.head f c.in-Some.ensures.2 _ _ c.in-Some-setting-of.ensures (simp length-take (omega arith)) whole c.if-size-gt-STREAM-BYTES.false
+    read c.args.bundle.now xs c.in-Some.head f c.in-Some.ensures.2 _ _ c.in-Some-setting_of.ensures (simp length-take (omega arith)) whole c.if-size-gt-STREAM-BYTES.false

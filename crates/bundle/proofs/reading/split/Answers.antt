@@ -11,8 +11,8 @@ loop-stream-smaller c = shorter c.loop-stream.left.now c.in-Stream.rest.now c.in
 
 pub loop-stream-preserved : goal.loop-stream-preserved
 loop-stream-preserved c =
-    subst (λ xs. Follow c.args.bundle.now xs c.in-Stream.rest.now) (sym c.in-ok-push.ensures.items)
+    subst (λ xs. Follow c.args.bundle.now xs c.in-Stream.rest.now) (sym c.in_ok-push.ensures.items)
     (one_more (vec_items c.loop-stream.streams) c.in-Stream.stream c.loop-stream.left.now c.in-Stream.rest.now c.loop-stream.invariant c.in-Stream.ensures)
 
 pub returns : goal.returns
-returns c = bundled _ (vec_items c.loop-stream.streams) c.loop-stream.left.now c.is-empty.result c.next-stream.result c.loop-stream.invariant c.next-stream.ensures c.in-default.not-Stream c.is-empty.ensures
+returns c = bundled _ (vec_items c.loop-stream.streams) c.loop-stream.left.now c.is_empty.result c.next_stream.result c.loop-stream.invariant c.next_stream.ensures c.in_default.not-Stream c.is_empty.ensures

@@ -5,7 +5,7 @@ use Rattle.sheet.specs.Table.{blank_variable}
 use Rattle.flow.specs.TableFlows.{row_of, variables_in}
 use Rattle.flow.proofs.Turns.{bits_none, bits_set, bits_left, bits_all, item_read}
 use Rattle.flow.proofs.inflow.variables_into.Goals as goal
-use Rattle.flow.proofs.inflow.variables_into.Goals.{then-flows-to, else-flows-to}
+use Rattle.flow.proofs.inflow.variables_into.Goals.{then-flows_to, else-flows_to}
 
 pub loop-variable-init : goal.loop-variable-init
 loop-variable-init g c = bits_none _
@@ -18,9 +18,9 @@ loop-variable-preserved g c =
     let m = c.loop-variable.mask in
     let Q : Row → Bool → Type 0 = λ row. FlowDecided C row c.args.target.now in
     let within : v < length t.rows = omega arith in
-    elim c.if-flows-to.branch [
-      | then-flows-to w ↦ bits_set (λ k. Q (row_of t k)) 64 v m _ (omega arith) c.loop-variable.invariant (item_read t.rows v _ blank_variable within (λ r. Q r.policy true) w.if-flows-to.ensures) w.mask-is
-      | else-flows-to w ↦ bits_left (λ k. Q (row_of t k)) v m _ c.loop-variable.invariant (item_read t.rows v _ blank_variable within (λ r. Q r.policy false) w.if-flows-to.ensures) w.mask-is
+    elim c.if-flows_to.branch [
+      | then-flows_to w ↦ bits_set (λ k. Q (row_of t k)) 64 v m _ (omega arith) c.loop-variable.invariant (item_read t.rows v _ blank_variable within (λ r. Q r.policy true) w.if-flows_to.ensures) w.mask-is
+      | else-flows_to w ↦ bits_left (λ k. Q (row_of t k)) v m _ c.loop-variable.invariant (item_read t.rows v _ blank_variable within (λ r. Q r.policy false) w.if-flows_to.ensures) w.mask-is
     ]
 
 pub returns : goal.returns

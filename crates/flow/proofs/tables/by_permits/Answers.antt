@@ -14,8 +14,8 @@ loop-permit-preserved g c =
     let t = c.args.table.now in
     let p = c.loop-permit.permit in
     let within : p < length t.grants = omega arith in
-    items_more (λ k. PermitFlowOf C t (get_or t.grants k blank_grant)) no_permit 8 p c.loop-permit.flows c.permit-flow.result (omega arith) c.loop-permit.invariant
-    (item_read t.grants p _ blank_grant within (λ grant. PermitFlowOf C t grant c.permit-flow.result) c.permit-flow.ensures)
+    items_more (λ k. PermitFlowOf C t (get_or t.grants k blank_grant)) no_permit 8 p c.loop-permit.flows c.permit_flow.result (omega arith) c.loop-permit.invariant
+    (item_read t.grants p _ blank_grant within (λ grant. PermitFlowOf C t grant c.permit_flow.result) c.permit_flow.ensures)
 
 pub returns : goal.returns
 returns g c =

@@ -10,10 +10,10 @@ returns g c =
     let t = c.args.table.now in
     let rows : TableFlows C t _ = record {
       counts = (c.min.ensures, c.min-2.ensures, c.min-3.ensures);
-      variable = c.into-variables.ensures;
-      condition = c.into-conditions.ensures;
-      lowest = subst (λ level. InflowOf C t (leaf_row level) c.leaf-inflow.result) c.lowest.ensures c.leaf-inflow.ensures;
-      permit = c.by-permits.ensures;
+      variable = c.into_variables.ensures;
+      condition = c.into_conditions.ensures;
+      lowest = subst (λ level. InflowOf C t (leaf_row level) c.leaf_inflow.result) c.lowest.ensures c.leaf_inflow.ensures;
+      permit = c.by_permits.ensures;
       wipers = c.wipers.ensures;
     } in
     record { rows = rows; sheets = λ sh R V. masks_of C t sh R V _ (g.met.L.Lattice.lawful l) rows }

@@ -11,7 +11,7 @@ pub loop-condition-preserved : goal.loop-condition-preserved
 loop-condition-preserved g c =
     let C = g.L.Lattice.lattice c.args.lattice.now in
     let t = c.args.table.now in
-    items_more (λ k. InflowOf C t (leaf_row (get_or t.levels k 0))) no_inflow 16 c.loop-condition.condition c.loop-condition.inflows c.leaf-inflow.result (omega arith) c.loop-condition.invariant c.leaf-inflow.ensures
+    items_more (λ k. InflowOf C t (leaf_row (get_or t.levels k 0))) no_inflow 16 c.loop-condition.condition c.loop-condition.inflows c.leaf_inflow.result (omega arith) c.loop-condition.invariant c.leaf_inflow.ensures
 
 pub returns : goal.returns
 returns g c =

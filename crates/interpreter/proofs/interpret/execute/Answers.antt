@@ -4,76 +4,76 @@ use Rattle.program.specs.Kept.{blank}
 use Rattle.interpreter.proofs.Flat.{step, stop, end, acted, ends, ends_done, ends_spent, I-zero, I-other, Q-down, Q-up, J-on, W-zero, W-stop, W-turn, K-on, K-zero, K-stop, K-turn, acts}
 use Rattle.interpreter.proofs.interpret.execute.Goals as goal
 
-pub loop-at-preserved-then-is-zero : goal.loop-at-preserved-then-is-zero
-loop-at-preserved-then-is-zero g c =
-    (c.loop-at.invariant.0, λ sh E e f. step _ _ sh (c.loop-at.invariant.1 sh E e f) c.loop-at-test.true (I-zero sh _ _ _ _ c.in-I.is (sym c.if-is-zero.ensures)))
+pub loop-at-preserved-then-is_zero : goal.loop-at-preserved-then-is_zero
+loop-at-preserved-then-is_zero g c =
+    (c.loop-at.invariant.0, λ sh E e f. step _ _ sh (c.loop-at.invariant.1 sh E e f) c.loop-at-test.true (I-zero sh _ _ _ _ c.in-I.is (sym c.if-is_zero.ensures)))
 
 pub loop-at-preserved-in-73· : goal.loop-at-preserved-in-73·
 loop-at-preserved-in-73· g c =
-    (c.loop-at.invariant.0, λ sh E e f. step _ _ sh (c.loop-at.invariant.1 sh E e f) c.loop-at-test.true (I-other sh _ _ _ _ c.in-I.is (sym c.if-is-zero.ensures)))
+    (c.loop-at.invariant.0, λ sh E e f. step _ _ sh (c.loop-at.invariant.1 sh E e f) c.loop-at-test.true (I-other sh _ _ _ _ c.in-I.is (sym c.if-is_zero.ensures)))
 
-pub loop-at-preserved-then-not-is-up : goal.loop-at-preserved-then-not-is-up
-loop-at-preserved-then-not-is-up g c =
-    (c.loop-at.invariant.0, λ sh E e f. step _ _ sh (c.loop-at.invariant.1 sh E e f) c.loop-at-test.true (Q-down sh _ _ _ _ c.in-Q.is (sym c.if-not-is-up.ensures)))
+pub loop-at-preserved-then-not-is_up : goal.loop-at-preserved-then-not-is_up
+loop-at-preserved-then-not-is_up g c =
+    (c.loop-at.invariant.0, λ sh E e f. step _ _ sh (c.loop-at.invariant.1 sh E e f) c.loop-at-test.true (Q-down sh _ _ _ _ c.in-Q.is (sym c.if-not-is_up.ensures)))
 
 pub loop-at-preserved-in-81· : goal.loop-at-preserved-in-81·
 loop-at-preserved-in-81· g c =
-    (c.loop-at.invariant.0, λ sh E e f. step _ _ sh (c.loop-at.invariant.1 sh E e f) c.loop-at-test.true (Q-up sh _ _ _ _ c.in-Q.is (sym c.if-not-is-up.ensures)))
+    (c.loop-at.invariant.0, λ sh E e f. step _ _ sh (c.loop-at.invariant.1 sh E e f) c.loop-at-test.true (Q-up sh _ _ _ _ c.in-Q.is (sym c.if-not-is_up.ensures)))
 
 pub loop-at-preserved-in-74· : goal.loop-at-preserved-in-74·
 loop-at-preserved-in-74· g c =
     (c.loop-at.invariant.0, λ sh E e f. step _ _ sh (c.loop-at.invariant.1 sh E e f) c.loop-at-test.true (J-on sh _ _ _ _ c.in-J.is))
 
-pub loop-at-preserved-then-is-zero-2 : goal.loop-at-preserved-then-is-zero-2
-loop-at-preserved-then-is-zero-2 g c =
-    (c.loop-at.invariant.0, λ sh E e f. step _ _ sh (c.loop-at.invariant.1 sh E e f) c.loop-at-test.true (W-zero sh _ _ _ _ c.in-W.is (sym c.if-is-zero-2.ensures)))
+pub loop-at-preserved-then-is_zero-2 : goal.loop-at-preserved-then-is_zero-2
+loop-at-preserved-then-is_zero-2 g c =
+    (c.loop-at.invariant.0, λ sh E e f. step _ _ sh (c.loop-at.invariant.1 sh E e f) c.loop-at-test.true (W-zero sh _ _ _ _ c.in-W.is (sym c.if-is_zero-2.ensures)))
 
 pub loop-at-preserved-in-87· : goal.loop-at-preserved-in-87·
 loop-at-preserved-in-87· g c =
-    let d = c.in-ok-left.ensures in
-    let q : c.loop-at.left ≡ suc c.in-ok-left.left = omega (arith, d.0, d.1) in (
+    let d = c.in_ok-left.ensures in
+    let q : c.loop-at.left ≡ suc c.in_ok-left.left = omega (arith, d.0, d.1) in (
       omega (arith, c.loop-at.invariant.0, q),
-      λ sh E e f. step _ _ sh (c.loop-at.invariant.1 sh E e f) c.loop-at-test.true (W-turn sh _ _ _ _ c.in-W.is (sym c.if-is-zero-2.ensures) _ q),
+      λ sh E e f. step _ _ sh (c.loop-at.invariant.1 sh E e f) c.loop-at-test.true (W-turn sh _ _ _ _ c.in-W.is (sym c.if-is_zero-2.ensures) _ q),
     )
 
-pub returns-in-err-left : goal.returns-in-err-left
-returns-in-err-left g c =
+pub returns-in_err-left : goal.returns-in_err-left
+returns-in_err-left g c =
     let p = c.args.program.now in
     let room : p.count ≤ length p.instructions = omega (arith, p.full, p.within) in
-    let z : c.loop-at.left ≡ 0 = omega (arith, c.in-err-left.ensures) in
+    let z : c.loop-at.left ≡ 0 = omega (arith, c.in_err-left.ensures) in
     record {
-      within = rw c.from-residual.ensures (omega arith);
+      within = rw c.from_residual.ensures (omega arith);
       ends = λ sh d E k.
-          ends_spent _ _ _ c.from-residual.ensures
-          (stop p.instructions p.count sh (c.loop-at.invariant.1 sh E _ (ends _ _ sh d room k.instructions k.placed _ _)) c.loop-at-test.true (W-stop sh _ _ _ _ c.in-W.is (sym c.if-is-zero-2.ensures) z));
+          ends_spent _ _ _ c.from_residual.ensures
+          (stop p.instructions p.count sh (c.loop-at.invariant.1 sh E _ (ends _ _ sh d room k.instructions k.placed _ _)) c.loop-at-test.true (W-stop sh _ _ _ _ c.in-W.is (sym c.if-is_zero-2.ensures) z));
     }
 
-pub loop-at-preserved-then-not-is-zero : goal.loop-at-preserved-then-not-is-zero
-loop-at-preserved-then-not-is-zero g c =
-    let d = c.in-ok-left-2.ensures in
-    let q : c.loop-at.left ≡ suc c.in-ok-left-2.left = omega (arith, d.0, d.1) in (
+pub loop-at-preserved-then-not-is_zero : goal.loop-at-preserved-then-not-is_zero
+loop-at-preserved-then-not-is_zero g c =
+    let d = c.in_ok-left-2.ensures in
+    let q : c.loop-at.left ≡ suc c.in_ok-left-2.left = omega (arith, d.0, d.1) in (
       omega (arith, c.loop-at.invariant.0, q),
       λ sh E e f.
           step _ _ sh (c.loop-at.invariant.1 sh E e f) c.loop-at-test.true
-          (K-turn sh _ _ _ _ c.in-K.is c.if-jump-ne0.true (sym c.if-not-is-zero.ensures) _ q _ c.saturating-sub-at.ensures),
+          (K-turn sh _ _ _ _ c.in-K.is c.if-jump-ne0.true (sym c.if-not-is_zero.ensures) _ q _ c.saturating_sub-at.ensures),
     )
 
-pub returns-in-err-left-2 : goal.returns-in-err-left-2
-returns-in-err-left-2 g c =
+pub returns-in_err-left-2 : goal.returns-in_err-left-2
+returns-in_err-left-2 g c =
     let p = c.args.program.now in
     let room : p.count ≤ length p.instructions = omega (arith, p.full, p.within) in
-    let z : c.loop-at.left ≡ 0 = omega (arith, c.in-err-left-2.ensures) in
-    let none = c.from-residual-in-err-left-2.ensures in
+    let z : c.loop-at.left ≡ 0 = omega (arith, c.in_err-left-2.ensures) in
+    let none = c.from_residual-in_err-left-2.ensures in
     record {
       within = rw none (omega arith);
       ends = λ sh d E k.
           ends_spent _ _ _ none
-          (stop p.instructions p.count sh (c.loop-at.invariant.1 sh E _ (ends _ _ sh d room k.instructions k.placed _ _)) c.loop-at-test.true (K-stop sh _ _ _ _ c.in-K.is c.if-jump-ne0.true (sym c.if-not-is-zero.ensures) z));
+          (stop p.instructions p.count sh (c.loop-at.invariant.1 sh E _ (ends _ _ sh d room k.instructions k.placed _ _)) c.loop-at-test.true (K-stop sh _ _ _ _ c.in-K.is c.if-jump-ne0.true (sym c.if-not-is_zero.ensures) z));
     }
 
-pub loop-at-preserved-else-not-is-zero : goal.loop-at-preserved-else-not-is-zero
-loop-at-preserved-else-not-is-zero g c =
-    (c.loop-at.invariant.0, λ sh E e f. step _ _ sh (c.loop-at.invariant.1 sh E e f) c.loop-at-test.true (K-zero sh _ _ _ _ c.in-K.is (sym c.if-not-is-zero.ensures)))
+pub loop-at-preserved-else-not-is_zero : goal.loop-at-preserved-else-not-is_zero
+loop-at-preserved-else-not-is_zero g c =
+    (c.loop-at.invariant.0, λ sh E e f. step _ _ sh (c.loop-at.invariant.1 sh E e f) c.loop-at-test.true (K-zero sh _ _ _ _ c.in-K.is (sym c.if-not-is_zero.ensures)))
 
 pub loop-at-preserved-else-jump-ne0 : goal.loop-at-preserved-else-jump-ne0
 loop-at-preserved-else-jump-ne0 g c =

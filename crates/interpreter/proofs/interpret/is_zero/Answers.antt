@@ -9,4 +9,4 @@ zero (pos n) f = refl
 zero (negsuc n) f = ne_eqb _ 0 (λ e. omega arith)
 
 pub returns : goal.returns
-returns g c = zero c.get.result c.get.type-inv ∙ ap is_zero c.get.ensures
+returns g c = zero c.get.result c.get.type_inv ∙ ap is_zero c.get.ensures

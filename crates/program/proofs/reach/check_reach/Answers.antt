@@ -7,11 +7,11 @@ returns-in-Some c a =
     let m = c.in-Some.ensures in
     rw c.new.ensures (variable_misfits c.args.number c.args.place c.args.context.variables c.args.context.conditions c.args.inflow.variables c.args.inflow.conditions a _ m.0 m.1 m.2)
 
-pub returns-in-Some-first-misfit : goal.returns-in-Some-first-misfit
-returns-in-Some-first-misfit c a =
-    let m = c.in-Some-first-misfit.ensures in
-    rw c.new-in-Some-first-misfit.ensures
-    (condition_misfits c.args.number c.args.place c.args.context.variables c.args.context.conditions c.args.inflow.variables c.args.inflow.conditions a _ (search rules) c.in-default.ensures m.1 m.2)
+pub returns-in-Some-first_misfit : goal.returns-in-Some-first_misfit
+returns-in-Some-first_misfit c a =
+    let m = c.in-Some-first_misfit.ensures in
+    rw c.new-in-Some-first_misfit.ensures
+    (condition_misfits c.args.number c.args.place c.args.context.variables c.args.context.conditions c.args.inflow.variables c.args.inflow.conditions a _ (search rules) c.in_default.ensures m.1 m.2)
 
 pub returns : goal.returns
-returns c a = none_misfits c.args.number c.args.place c.args.context.variables c.args.context.conditions c.args.inflow.variables c.args.inflow.conditions a c.in-default.ensures c.in-default-first-misfit.ensures
+returns c a = none_misfits c.args.number c.args.place c.args.context.variables c.args.context.conditions c.args.inflow.variables c.args.inflow.conditions a c.in_default.ensures c.in_default-first_misfit.ensures

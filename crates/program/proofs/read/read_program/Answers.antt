@@ -9,16 +9,16 @@ returns-then-bytes-ne0 c =
     let h : whole_records c.args.bytes.now ≡ false = search rules in
     rw c.new.ensures (wrong_length c.args.masks.now c.args.bytes.now h)
 
-pub returns-in-err-count : goal.returns-in-err-count
-returns-in-err-count c =
+pub returns-in_err-count : goal.returns-in_err-count
+returns-in_err-count c =
     let m : length c.args.bytes.now % 8 ≡ 0 = search rules in
     let l : length c.args.bytes.now ≤ 2048 = search rules in
-    let p = err_from_is_err_and c.from-residual.result c.from-residual.ensures.1 in
-    rw (p.1, p.2) (program_refused c.args.masks.now c.args.bytes.now m l _ c.outermost-context.ensures _ c.in-err-count.ensures.answer)
+    let p = err_from_is_err_and c.from_residual.result c.from_residual.ensures.1 in
+    rw (p.1, p.2) (program_refused c.args.masks.now c.args.bytes.now m l _ c.outermost-context.ensures _ c.in_err-count.ensures.answer)
 
 pub returns : goal.returns
 returns c =
     let m : length c.args.bytes.now % 8 ≡ 0 = search rules in
     let l : length c.args.bytes.now ≤ 2048 = search rules in
-    let f = c.in-ok-count.ensures.forward in
-    program_read c.args.masks.now c.args.bytes.now m l _ c.outermost-context.ensures _ _ c.in-ok-count.-rest.now c.in-ok-count.ensures.answer f.0 (f.2 refl)
+    let f = c.in_ok-count.ensures.forward in
+    program_read c.args.masks.now c.args.bytes.now m l _ c.outermost-context.ensures _ _ c.in_ok-count.-rest.now c.in_ok-count.ensures.answer f.0 (f.2 refl)

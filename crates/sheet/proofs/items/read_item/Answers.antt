@@ -5,21 +5,21 @@ use Rattle.sheet.proofs.ItemSteps as steps
 use Rattle.sheet.proofs.LetterSteps.{condition_letter, variable_letter, permit_letter, no_item}
 use Rattle.sheet.proofs.items.read_item.Goals as goal
 
-pub returns-in-err-level : goal.returns-in-err-level
-returns-in-err-level g c = record {
-  forward = IfOk-from_err _ _ c.from-residual.ensures.0;
+pub returns-in_err-level-in-Condition : goal.returns-in_err-level-in-Condition
+returns-in_err-level-in-Condition g c = record {
+  forward = IfOk-from_err _ _ c.from_residual.ensures.0;
   answer =
-      let p = err_from_is_err_and c.from-residual.result c.from-residual.ensures.1 in
+      let p = err_from_is_err_and c.from_residual.result c.from_residual.ensures.1 in
       let l = condition_letter c.args.first.letter c.args.table.now.variables c.args.table.now.permits _ c.position.ensures c.in-Condition.ensures in
-      rw (p.1, p.2) (steps.condition_refused _ _ c.args.table.now _ c.args.first (records c.args.bytes.now) l.0 l.1 l.2 _ c.in-err-level.ensures);
+      rw (p.1, p.2) (steps.condition_refused _ _ c.args.table.now _ c.args.first (records c.args.bytes.now) l.0 l.1 l.2 _ c.in_err-level-in-Condition.ensures);
 }
 
-pub returns-in-ok-level : goal.returns-in-ok-level
-returns-in-ok-level g c =
+pub returns-in_ok-level-in-Condition : goal.returns-in_ok-level-in-Condition
+returns-in_ok-level-in-Condition g c =
     let l = condition_letter c.args.first.letter c.args.table.now.variables c.args.table.now.permits _ c.position.ensures c.in-Condition.ensures in
     record {
       forward = (refl, search rules, omega arith);
-      answer = steps.condition_read _ _ c.args.table.now _ c.args.first (records c.args.bytes.now) l.0 l.1 l.2 _ c.in-ok-level.ensures;
+      answer = steps.condition_read _ _ c.args.table.now _ c.args.first (records c.args.bytes.now) l.0 l.1 l.2 _ c.in_ok-level-in-Condition.ensures;
     }
 
 pub returns-in-Variable : goal.returns-in-Variable
@@ -28,10 +28,10 @@ returns-in-Variable g c =
     let m : c.args.table.now.conditions ≤ 16 = search rules in
     record {
       forward = IfOk-weaker _
-          (λ p. (8 * p.0 + length p.1.now ≡ 8 * (c.args.place + 1) + length c.args.bytes.now) × (c.read-variable.new.table.conditions ≡ c.args.table.now.conditions) × (c.args.place < p.0))
-          (λ p. (8 * p.0 + length p.1.now ≡ 8 * (c.args.place + 1) + length c.args.bytes.now) × (c.read-variable.new.table.conditions ≤ 16) × (c.args.place < p.0))
-          (λ p k. (k.0, omega (arith, k.1, m), k.2)) c.read-variable.ensures.forward;
-      answer = c.read-variable.ensures.answer l.0 l.1;
+          (λ p. (8 * p.0 + length p.1.now ≡ 8 * (c.args.place + 1) + length c.args.bytes.now) × (c.read_variable.new.table.conditions ≡ c.args.table.now.conditions) × (c.args.place < p.0))
+          (λ p. (8 * p.0 + length p.1.now ≡ 8 * (c.args.place + 1) + length c.args.bytes.now) × (c.read_variable.new.table.conditions ≤ 16) × (c.args.place < p.0))
+          (λ p k. (k.0, omega (arith, k.1, m), k.2)) c.read_variable.ensures.forward;
+      answer = c.read_variable.ensures.answer l.0 l.1;
     }
 
 pub returns-in-Permit : goal.returns-in-Permit
@@ -40,16 +40,16 @@ returns-in-Permit g c =
     let m : c.args.table.now.conditions ≤ 16 = search rules in
     record {
       forward = IfOk-weaker _
-          (λ p. (8 * p.0 + length p.1.now ≡ 8 * (c.args.place + 1) + length c.args.bytes.now) × (c.read-permit.new.table.conditions ≡ c.args.table.now.conditions) × (c.args.place < p.0))
-          (λ p. (8 * p.0 + length p.1.now ≡ 8 * (c.args.place + 1) + length c.args.bytes.now) × (c.read-permit.new.table.conditions ≤ 16) × (c.args.place < p.0))
-          (λ p k. (k.0, omega (arith, k.1, m), k.2)) c.read-permit.ensures.forward;
-      answer = c.read-permit.ensures.answer l _;
+          (λ p. (8 * p.0 + length p.1.now ≡ 8 * (c.args.place + 1) + length c.args.bytes.now) × (c.read_permit.new.table.conditions ≡ c.args.table.now.conditions) × (c.args.place < p.0))
+          (λ p. (8 * p.0 + length p.1.now ≡ 8 * (c.args.place + 1) + length c.args.bytes.now) × (c.read_permit.new.table.conditions ≤ 16) × (c.args.place < p.0))
+          (λ p k. (k.0, omega (arith, k.1, m), k.2)) c.read_permit.ensures.forward;
+      answer = c.read_permit.ensures.answer l _;
     }
 
-pub returns-in-default : goal.returns-in-default
-returns-in-default g c = record {
+pub returns-in_default : goal.returns-in_default
+returns-in_default g c = record {
   forward = tt;
   answer =
-      let n = no_item c.args.first.letter c.args.table.now.variables c.args.table.now.permits _ _ c.position.ensures c.kind-at.ensures c.in-default.not-Condition c.in-default.not-Variable c.in-default.not-Permit in
+      let n = no_item c.args.first.letter c.args.table.now.variables c.args.table.now.permits _ _ c.position.ensures c.kind_at.ensures c.in_default.not-Condition c.in_default.not-Variable c.in_default.not-Permit in
       rw c.new.ensures (steps.refused_letter _ _ c.args.table.now _ c.args.first (records c.args.bytes.now) n.0 n.1 n.2);
 }

@@ -16,14 +16,14 @@ pub loop-first-init : goal.loop-first-init
 loop-first-init g c =
     let m : length c.args.bytes.now % 8 ≡ 0 = search rules in
     let l : length c.args.bytes.now ≤ 4096 = search rules in
-    (omega arith, search rules, far_start _ _ c.args.bytes.now _ m l c.tabulate-known.ensures c.new-table.ensures)
+    (omega arith, search rules, far_start _ _ c.args.bytes.now _ m l c.tabulate_known.ensures c.new-table.ensures)
 
-pub returns-in-err-next : goal.returns-in-err-next
-returns-in-err-next g c =
-    let p = err_from_is_err_and c.from-residual.result c.from-residual.ensures.1 in
-    rw (p.1, p.2) (far_refused _ _ c.args.bytes.now _ _ (records c.loop-first.left.now) c.in-Some.first (records c.in-Some.rest.now) _ c.in-Some.ensures.1 c.loop-first.invariant.2 c.in-err-next.ensures.answer)
+pub returns-in_err-next : goal.returns-in_err-next
+returns-in_err-next g c =
+    let p = err_from_is_err_and c.from_residual.result c.from_residual.ensures.1 in
+    rw (p.1, p.2) (far_refused _ _ c.args.bytes.now _ _ (records c.loop-first.left.now) c.in-Some.first (records c.in-Some.rest.now) _ c.in-Some.ensures.1 c.loop-first.invariant.2 c.in_err-next.ensures.answer)
 
 pub returns : goal.returns
 returns g c =
     let e : length c.loop-first.left.now < 8 = search rules in
-    far_end _ _ c.args.bytes.now _ _ (records c.loop-first.left.now) (each_at c.args.bytes.now (λ i. (c.type-inv.bytes i).fits)) (records_short c.loop-first.left.now e) c.loop-first.invariant.2
+    far_end _ _ c.args.bytes.now _ _ (records c.loop-first.left.now) (each_at c.args.bytes.now (λ i. (c.type_inv.bytes i).fits)) (records_short c.loop-first.left.now e) c.loop-first.invariant.2

@@ -8,69 +8,69 @@ use Rattle.sheet.proofs.TreeSteps as steps
 use Rattle.sheet.proofs.TreeSteps.{refused_as, read_as}
 use Rattle.sheet.proofs.trees.+read_tree.Goals as goal
 
-pub returns-in-default : goal.returns-in-default
-returns-in-default t c = record {
+pub returns-in_default : goal.returns-in_default
+returns-in_default t c = record {
   forward = tt;
-  answer = rw c.new.ensures (refused_as (records_short c.args.bytes.now c.in-default.ensures) (steps.refused_end c.args.known.now c.args.conditions c.args.place c.args.depth));
+  answer = rw c.new.ensures (refused_as (records_short c.args.bytes.now c.in_default.ensures) (steps.refused_end c.args.known.now c.args.conditions c.args.place c.args.depth));
 }
 
-pub returns-in-default-kind-at : goal.returns-in-default-kind-at
-returns-in-default-kind-at t c = record {
+pub returns-in_default-kind_at : goal.returns-in_default-kind_at
+returns-in_default-kind_at t c = record {
   forward = tt;
   answer =
-      let n = neither c.in-Some.first.letter _ c.kind-at.ensures c.in-default-kind-at.not-Leaf c.in-default-kind-at.not-Node in
-      rw c.new-in-default-kind-at.ensures (refused_as c.in-Some.ensures.1 (steps.refused_letter _ _ _ _ c.in-Some.first (records c.in-Some.rest.now) n.0 n.1));
+      let n = neither c.in-Some.first.letter _ c.kind_at.ensures c.in_default-kind_at.not-Leaf c.in_default-kind_at.not-Node in
+      rw c.new-in_default-kind_at.ensures (refused_as c.in-Some.ensures.1 (steps.refused_letter _ _ _ _ c.in-Some.first (records c.in-Some.rest.now) n.0 n.1));
 }
 
-pub returns-in-err-level : goal.returns-in-err-level
-returns-in-err-level t c = record {
-  forward = IfOk-from_err _ _ c.from-residual.ensures.0;
+pub returns-in_err-level-in-Leaf : goal.returns-in_err-level-in-Leaf
+returns-in_err-level-in-Leaf t c = record {
+  forward = IfOk-from_err _ _ c.from_residual.ensures.0;
   answer =
-      let p = err_from_is_err_and c.from-residual.result c.from-residual.ensures.1 in
+      let p = err_from_is_err_and c.from_residual.result c.from_residual.ensures.1 in
       let l = leaf_letter c.in-Some.first.letter c.in-Leaf.ensures in
-      rw (p.1, p.2) (refused_as c.in-Some.ensures.1 (steps.refused_leaf _ _ _ _ c.in-Some.first (records c.in-Some.rest.now) _ l c.in-err-level.ensures));
+      rw (p.1, p.2) (refused_as c.in-Some.ensures.1 (steps.refused_leaf _ _ _ _ c.in-Some.first (records c.in-Some.rest.now) _ l c.in_err-level-in-Leaf.ensures));
 }
 
-pub returns-in-ok-level : goal.returns-in-ok-level
-returns-in-ok-level t c = record {
+pub returns-in_ok-level-in-Leaf : goal.returns-in_ok-level-in-Leaf
+returns-in_ok-level-in-Leaf t c = record {
   forward = search rules;
   answer =
       let l = leaf_letter c.in-Some.first.letter c.in-Leaf.ensures in
-      read_as c.in-Some.ensures.1 (steps.read_leaf _ _ _ _ c.in-Some.first (records c.in-Some.rest.now) _ _ _ _ l c.in-ok-level.ensures c.add.ensures);
+      read_as c.in-Some.ensures.1 (steps.read_leaf _ _ _ _ c.in-Some.first (records c.in-Some.rest.now) _ _ _ _ l c.in_ok-level-in-Leaf.ensures c.add.ensures);
 }
 
-pub returns-in-err-condition : goal.returns-in-err-condition
-returns-in-err-condition t c = record {
-  forward = IfOk-from_err _ _ c.from-residual-in-err-condition.ensures.0;
+pub returns-in_err-condition-in-Node : goal.returns-in_err-condition-in-Node
+returns-in_err-condition-in-Node t c = record {
+  forward = IfOk-from_err _ _ c.from_residual-in_err-condition-in-Node.ensures.0;
   answer =
-      let p = err_from_is_err_and c.from-residual-in-err-condition.result c.from-residual-in-err-condition.ensures.1 in
+      let p = err_from_is_err_and c.from_residual-in_err-condition-in-Node.result c.from_residual-in_err-condition-in-Node.ensures.1 in
       let l = node_letter c.in-Some.first.letter c.in-Node.ensures in
-      rw (p.1, p.2) (refused_as c.in-Some.ensures.1 (steps.refused_node _ _ _ _ c.in-Some.first (records c.in-Some.rest.now) _ l c.in-err-condition.ensures));
+      rw (p.1, p.2) (refused_as c.in-Some.ensures.1 (steps.refused_node _ _ _ _ c.in-Some.first (records c.in-Some.rest.now) _ l c.in_err-condition-in-Node.ensures));
 }
 
-pub returns-in-err-next : goal.returns-in-err-next
-returns-in-err-next t c = record {
-  forward = IfOk-from_err _ _ c.from-residual-in-err-next.ensures.0;
+pub returns-in_err-next-in-Node : goal.returns-in_err-next-in-Node
+returns-in_err-next-in-Node t c = record {
+  forward = IfOk-from_err _ _ c.from_residual-in_err-next-in-Node.ensures.0;
   answer =
-      let p = err_from_is_err_and c.from-residual-in-err-next.result c.from-residual-in-err-next.ensures.1 in
+      let p = err_from_is_err_and c.from_residual-in_err-next-in-Node.result c.from_residual-in_err-next-in-Node.ensures.1 in
       let l = node_letter c.in-Some.first.letter c.in-Node.ensures in
-      rw (p.1, p.2) (refused_as c.in-Some.ensures.1 (steps.refused_present _ _ _ _ c.in-Some.first (records c.in-Some.rest.now) _ l c.in-ok-condition.ensures _ c.in-err-next.ensures.answer));
+      rw (p.1, p.2) (refused_as c.in-Some.ensures.1 (steps.refused_present _ _ _ _ c.in-Some.first (records c.in-Some.rest.now) _ l c.in_ok-condition-in-Node.ensures _ c.in_err-next-in-Node.ensures.answer));
 }
 
-pub returns-in-ok-next : goal.returns-in-ok-next
-returns-in-ok-next t c =
+pub returns-in_ok-next-in-Node : goal.returns-in_ok-next-in-Node
+returns-in_ok-next-in-Node t c =
     let e = c.in-Some.ensures.1 in
     let l = node_letter c.in-Some.first.letter c.in-Node.ensures in
-    let one = c.in-ok-next.ensures.answer in
-    let f = c.in-ok-next.ensures.forward in
-    let i = ap (bit_or c.args.guard) c.condition-bit.ensures in
+    let one = c.in_ok-next-in-Node.ensures.answer in
+    let f = c.in_ok-next-in-Node.ensures.forward in
+    let i = ap (bit_or c.args.guard) c.condition_bit.ensures in
     record {
       forward = IfOk-weaker _
-          (λ p. (8 * p.0 + length p.1.now ≡ 8 * c.in-ok-next.next + length c.in-ok-next.left.now) × (c.in-ok-next.next < p.0))
+          (λ p. (8 * p.0 + length p.1.now ≡ 8 * c.in_ok-next-in-Node.next + length c.in_ok-next-in-Node.left.now) × (c.in_ok-next-in-Node.next < p.0))
           (λ p. (8 * p.0 + length p.1.now ≡ 8 * c.args.place + length c.args.bytes.now) × (c.args.place < p.0))
           (λ p k. (omega (arith, k.0, f.0, c.in-Some.ensures.0), omega (arith, k.1, f.1)))
-          c.read-tree-in-Node.ensures.forward;
-      answer = MatchResult-weaker _ c.read-tree-in-Node.ensures.answer
-          (λ p two. read_as e (steps.read_node _ _ _ _ c.in-Some.first (records c.in-Some.rest.now) _ l c.in-ok-condition.ensures _ _ _ _ _ _ c.pass-node.ensures one _ _ _ _ i two))
-          (λ r two. refused_as e (steps.refused_later _ _ _ _ c.in-Some.first (records c.in-Some.rest.now) _ l c.in-ok-condition.ensures _ _ _ _ _ _ c.pass-node.ensures one _ two));
+          c.read_tree-in-Node.ensures.forward;
+      answer = MatchResult-weaker _ c.read_tree-in-Node.ensures.answer
+          (λ p two. read_as e (steps.read_node _ _ _ _ c.in-Some.first (records c.in-Some.rest.now) _ l c.in_ok-condition-in-Node.ensures _ _ _ _ _ _ c.pass_node.ensures one _ _ _ _ i two))
+          (λ r two. refused_as e (steps.refused_later _ _ _ _ c.in-Some.first (records c.in-Some.rest.now) _ l c.in_ok-condition-in-Node.ensures _ _ _ _ _ _ c.pass_node.ensures one _ two));
     }

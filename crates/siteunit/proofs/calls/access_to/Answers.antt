@@ -22,7 +22,7 @@ loop-variable-preserved c =
     let t = c.args.table.now in
     let v = c.loop-variable.variable in
     let within : v < length t.rows = omega arith in
-    items_more (λ k a. a ≡ access_of (get_or t.rows k blank_variable)) no_access 64 v c.loop-variable.access _ (omega arith) c.loop-variable.invariant (access_is t.rows v _ _ within c.present-level.ensures)
+    items_more (λ k a. a ≡ access_of (get_or t.rows k blank_variable)) no_access 64 v c.loop-variable.access _ (omega arith) c.loop-variable.invariant (access_is t.rows v _ _ within c.present_level.ensures)
 
 pub returns : goal.returns
 returns c =

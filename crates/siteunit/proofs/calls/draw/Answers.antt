@@ -11,5 +11,5 @@ loop-at-preserved g c =
     let room = c.requires.room in
     let whole = c.requires.whole in
     let t = c.loop-at-test.true in
-    ap (λ x. set c.loop-at.buffer i x) c.image-byte.ensures ∙ ap (λ l. set l i (get_or image i 0)) c.loop-at.invariant
+    ap (λ x. set c.loop-at.buffer i x) c.image_byte.ensures ∙ ap (λ l. set l i (get_or image i 0)) c.loop-at.invariant
     ∙ ap (λ j. set (paste before 0 image i) j (get_or image i 0)) (sym (zero-add i)) ∙ paste_more before 0 image i 0 (omega arith) (omega arith)

@@ -4,5 +4,5 @@ use Rattle.store.proofs.entries.insert.Goals as goal
 
 pub returns : goal.returns
 returns c =
-    ap (λ l. set l c.args.at c.args.new) c.copy-within.ensures.after
+    ap (λ l. set l c.args.at c.args.new) c.copy_within.ensures.after
     ∙ moved_up c.args.entries.now c.args.used c.args.at c.args.new c.requires.0 c.requires.1

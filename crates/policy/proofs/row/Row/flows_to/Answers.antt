@@ -10,7 +10,7 @@ loop-leaf-preserved g c =
     let gs = c.leaves-leaf-items.result.now in
     let i = c.loop-leaf.leaf-index in
     below_more (λ k. LeafBelow C (levels_in c.args.other.now) (get_or gs k no_leaf)) i c.loop-leaf.invariant
-    (ap (C.below (get_or gs i no_leaf).level) (sym c.level-under.ensures.equals) ∙ sym c.below.ensures ∙ c.if-not-below.false)
+    (ap (C.below (get_or gs i no_leaf).level) (sym c.level_under.ensures.equals) ∙ sym c.below.ensures ∙ c.if-not-below.false)
 
 pub returns : goal.returns
 returns g c =
@@ -23,4 +23,4 @@ returns-then-not-below g c =
     let gs = c.leaves-leaf-items.result.now in
     let i = c.loop-leaf.leaf-index in
     one_fails (g.met.L.Lattice.lawful c.args.lattice.now) c.args.self.now c.args.other.now gs i c.leaves-leaf-items.ensures c.loop-leaf-test.true
-    (λ t. both_ways _ c.if-not-below.true (c.below.ensures ∙ ap (C.below (get_or gs i no_leaf).level) c.level-under.ensures.equals ∙ t))
+    (λ t. both_ways _ c.if-not-below.true (c.below.ensures ∙ ap (C.below (get_or gs i no_leaf).level) c.level_under.ensures.equals ∙ t))

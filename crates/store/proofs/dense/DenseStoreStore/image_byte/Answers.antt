@@ -12,7 +12,7 @@ returns-then-at-lt-PLACES c =
     let full = c.args.self.now.full in
     let q : at / 4 < length vs = omega arith in
     let f : SFits w32 (get_or vs (at / 4) (pos 0)) = search rules in
-    let h = simp to_z-of_z at c.to-be-bytes.ensures in
+    let h = simp to_z-of_z at c.to_be_bytes.ensures in
     ap (λ w. get_or w (at % 4) 0) h ∙ sym (get_or_dense vs at q)
 
 pub returns-else-at-lt-PLACES : goal.returns-else-at-lt-PLACES

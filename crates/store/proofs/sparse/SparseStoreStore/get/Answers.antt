@@ -12,8 +12,8 @@ returns-then-place-ge-PLACES c =
     let l = length_values es in
     sym (get_or_past (values_of es) c.args.place (pos 0) (omega arith))
 
-pub offset-bounds-self-at : goal.offset-bounds-self-at
-offset-bounds-self-at c = let r = held_room c.args.self.now c.args.place c.if-place-ge-PLACES.false c.in-Ok.at c.in-Ok.ensures in search rules
+pub offset_bounds-self-at : goal.offset_bounds-self-at
+offset_bounds-self-at c = let r = held_room c.args.self.now c.args.place c.if-place-ge-PLACES.false c.in-Ok.at c.in-Ok.ensures in search rules
 
 pub bounds-self-at : goal.bounds-self-at
 bounds-self-at c = let r = held_room c.args.self.now c.args.place c.if-place-ge-PLACES.false c.in-Ok.at c.in-Ok.ensures in omega arith

@@ -7,8 +7,8 @@ zeros : Kept (replicate 64 unused) 0 (replicate 64 (pos 0))
 unfolding used_from entries_of
 zeros = kept (replicate 64 unused) 0 (replicate 64 (pos 0)) refl refl refl
 
-pub invariant-of-result : goal.invariant-of-result
-invariant-of-result c = (zeros.full, (zeros.room, (zeros.ordered, (zeros.blank, tt))))
+pub invariant_of-result : goal.invariant_of-result
+invariant_of-result c = record { full = zeros.full; room = zeros.room; ordered = zeros.ordered; blank = zeros.blank }
 
 pub returns : goal.returns
 returns c = zeros.values

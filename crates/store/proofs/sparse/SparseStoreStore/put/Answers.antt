@@ -24,8 +24,8 @@ remove-requires c =
     let r = held_room s c.args.place c.if-place-ge-PLACES.false c.in-Ok.at c.in-Ok.ensures in
     (omega arith, omega arith)
 
-pub overflow-sub-self : goal.overflow-sub-self
-overflow-sub-self c =
+pub overflow_sub-self : goal.overflow_sub-self
+overflow_sub-self c =
     let s = c.args.self.now in
     let r = held_room s c.args.place c.if-place-ge-PLACES.false c.in-Ok.at c.in-Ok.ensures in omega arith
 
@@ -36,11 +36,11 @@ removed c =
     kept_remove c.args.self.now c.args.place c.if-place-ge-PLACES.false c.in-Ok.at c.in-Ok.ensures c.args.value y
     c.remove.new.entries c.remove.ensures
 
-pub invariant-of-self : goal.invariant-of-self
-invariant-of-self c = let k = removed c in (k.full, (k.room, (k.ordered, (k.blank, tt))))
+pub invariant_of-self : goal.invariant_of-self
+invariant_of-self c = let k = removed c in record { full = k.full; room = k.room; ordered = k.ordered; blank = k.blank }
 
-pub offset-bounds-self-at : goal.offset-bounds-self-at
-offset-bounds-self-at c =
+pub offset_bounds-self-at : goal.offset_bounds-self-at
+offset_bounds-self-at c =
     let s = c.args.self.now in
     let r = held_room s c.args.place c.if-place-ge-PLACES.false c.in-Ok.at c.in-Ok.ensures in search rules
 
@@ -58,8 +58,8 @@ written c =
     kept_over c.args.self.now c.args.place c.if-place-ge-PLACES.false c.in-Ok.at c.in-Ok.ensures v y _
     (ap (λ x. set c.args.self.now.entries c.in-Ok.at record { place = c.args.place; value = x }) (to_z-of_z w32 v c.ranges.value))
 
-pub invariant-of-self-in-Ok-2 : goal.invariant-of-self-in-Ok-2
-invariant-of-self-in-Ok-2 c = let k = written c in (k.full, (k.room, (k.ordered, (k.blank, tt))))
+pub invariant_of-self-in-Ok-2 : goal.invariant_of-self-in-Ok-2
+invariant_of-self-in-Ok-2 c = let k = written c in record { full = k.full; room = k.room; ordered = k.ordered; blank = k.blank }
 
 pub insert-requires : goal.insert-requires
 insert-requires c =
@@ -68,8 +68,8 @@ insert-requires c =
     let r = free_room s c.args.place c.if-place-ge-PLACES.false c.in-Err.field-0 c.in-Err.ensures in
     (omega arith, omega arith)
 
-pub overflow-add-self : goal.overflow-add-self
-overflow-add-self c =
+pub overflow_add-self : goal.overflow_add-self
+overflow_add-self c =
     let s = c.args.self.now in
     let r = free_room s c.args.place c.if-place-ge-PLACES.false c.in-Err.field-0 c.in-Err.ensures in search rules
 
@@ -82,8 +82,8 @@ inserted c =
     kept_insert c.args.self.now c.args.place c.if-place-ge-PLACES.false c.in-Err.field-0 c.in-Err.ensures v y
     c.insert.new.entries (simp to_z-of_z at c.insert.ensures)
 
-pub invariant-of-self-in-Err-2 : goal.invariant-of-self-in-Err-2
-invariant-of-self-in-Err-2 c = let k = inserted c in (k.full, (k.room, (k.ordered, (k.blank, tt))))
+pub invariant_of-self-in-Err-2 : goal.invariant_of-self-in-Err-2
+invariant_of-self-in-Err-2 c = let k = inserted c in record { full = k.full; room = k.room; ordered = k.ordered; blank = k.blank }
 
 pub returns-in-Ok : goal.returns-in-Ok
 returns-in-Ok c =
