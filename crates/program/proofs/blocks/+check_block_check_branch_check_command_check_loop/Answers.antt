@@ -33,30 +33,30 @@ check_block-returns-in-Mark t c =
       answer = record { left = records c.loop-first.left.now; reads = i.4; ends = steps.ends_mark _ _ _ c.args.innermost _ _ _ _ c.in-Some.ensures.1 p };
     }
 
-pub check_block-returns-in_err-next : goal.check_block-returns-in_err-next
-check_block-returns-in_err-next t c =
+pub check_block-returns-in_err-next-in_default-2 : goal.check_block-returns-in_err-next-in_default-2
+check_block-returns-in_err-next-in_default-2 t c =
     let i = c.loop-first.invariant in
     record {
       restored = search rules;
-      forward = IfOk-from_err _ _ c.from_residual-in_err-next.ensures.0;
+      forward = IfOk-from_err _ _ c.from_residual-in_err-next-in_default-2.ensures.0;
       answer =
-          let p = err_from_is_err_and c.from_residual-in_err-next.result c.from_residual-in_err-next.ensures.1 in
+          let p = err_from_is_err_and c.from_residual-in_err-next-in_default-2.result c.from_residual-in_err-next-in_default-2.ensures.1 in
           rw (p.1, p.2)
           (steps.refused_after _ _ _ _ i.4 (steps.refused_as _ _ _ _ c.in-Some.ensures.1
-          (steps.refused_under _ _ _ i.3 (c.in_err-next.ensures.answer c.args.innermost c.in_ok-kind.ensures c.in_default-2.not-Mark))));
+          (steps.refused_under _ _ _ i.3 (c.in_err-next-in_default-2.ensures.answer c.args.innermost c.in_ok-kind.ensures c.in_default-2.not-Mark))));
     }
 
 pub check_block-loop-first-preserved : goal.check_block-loop-first-preserved
 check_block-loop-first-preserved t c =
     let i = c.loop-first.invariant in
-    let f = c.in_ok-next.ensures.forward in
+    let f = c.in_ok-next-in_default-2.ensures.forward in
     let l = c.in-Some.ensures.0 in (
       omega (arith, i.0, l, f.0),
       omega (arith, i.1, f.1),
       search rules,
       c.check_command.ensures.restored ∙ i.3,
       steps.reads_more _ _ _ _ i.4 (steps.reads_as _ _ _ _ c.in-Some.ensures.1
-          (steps.reads_under _ _ _ i.3 (c.in_ok-next.ensures.answer c.args.innermost c.in_ok-kind.ensures c.in_default-2.not-Mark))),
+          (steps.reads_under _ _ _ i.3 (c.in_ok-next-in_default-2.ensures.answer c.args.innermost c.in_ok-kind.ensures c.in_default-2.not-Mark))),
     )
 
 pub check_block-returns-in-Outermost : goal.check_block-returns-in-Outermost

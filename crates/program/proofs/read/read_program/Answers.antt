@@ -21,4 +21,4 @@ returns c =
     let m : length c.args.bytes.now % 8 ≡ 0 = search rules in
     let l : length c.args.bytes.now ≤ 2048 = search rules in
     let f = c.in_ok-count.ensures.forward in
-    program_read c.args.masks.now c.args.bytes.now m l _ c.outermost-context.ensures _ _ c.in_ok-count.-rest.now c.in_ok-count.ensures.answer f.0 (f.2 refl)
+    program_read c.args.masks.now c.args.bytes.now m l _ c.outermost-context.ensures _ _ c.in_ok-count._rest.now c.in_ok-count.ensures.answer f.0 (f.2 refl)

@@ -5,7 +5,7 @@ use Rattle.stream.specs.declared.calls.Call.TheVariants.{Sheet, Load}
 use Rattle.stream.specs.Calls.{number_head}
 use Rattle.stream.proofs.Decoding.{too_short, no_short, no_records, read_short, read_long, head_long}
 use Rattle.stream.proofs.decode.next_call.Goals as goal
-use Rattle.stream.proofs.decode.next_call.Goals.{in_default-2-via-in-h+else-names_number, in_default-2-via-in-l+else-names_number-2, in_default-2-via-in-default·}
+use Rattle.stream.proofs.decode.next_call.Goals.{in_default-2-via-in-h+else-names_number, in_default-2-via-in-l+else-names_number-2, in_default-2-via-in_default-1}
 
 nothing : {X : Type 0} (xs : List X) → length xs ≡ 0 → xs ≡ []
 nothing [] e = refl
@@ -60,7 +60,7 @@ returns-in-None-short_call c =
           let s : (eqb c.in-Some.head.letter 104 && number_head c.in-Some.head) ≡ true → ⊥ = search rules in
           let l : (eqb c.in-Some.head.letter 108 && number_head c.in-Some.head) ≡ true → ⊥ = search rules in
           no_short c.args.input.now c.in-Some.rest.now c.in-Some.head f c.in-Some.ensures.2 c.in-None-short_call.ensures s l
-      | in_default-2-via-in-default· w ↦
+      | in_default-2-via-in_default-1 w ↦
           let s : (eqb c.in-Some.head.letter 104 && number_head c.in-Some.head) ≡ true → ⊥ = search rules in
           let l : (eqb c.in-Some.head.letter 108 && number_head c.in-Some.head) ≡ true → ⊥ = search rules in
           no_short c.args.input.now c.in-Some.rest.now c.in-Some.head f c.in-Some.ensures.2 c.in-None-short_call.ensures s l
