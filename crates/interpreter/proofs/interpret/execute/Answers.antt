@@ -8,39 +8,39 @@ pub loop-at-preserved-then-is_zero : goal.loop-at-preserved-then-is_zero
 loop-at-preserved-then-is_zero g c =
     (c.loop-at.invariant.0, λ sh E e f. step _ _ sh (c.loop-at.invariant.1 sh E e f) c.loop-at-test.true (I-zero sh _ _ _ _ c.in-I.is (sym c.if-is_zero.ensures)))
 
-pub loop-at-preserved-in-73· : goal.loop-at-preserved-in-73·
-loop-at-preserved-in-73· g c =
+pub loop-at-preserved-in-73-1 : goal.loop-at-preserved-in-73-1
+loop-at-preserved-in-73-1 g c =
     (c.loop-at.invariant.0, λ sh E e f. step _ _ sh (c.loop-at.invariant.1 sh E e f) c.loop-at-test.true (I-other sh _ _ _ _ c.in-I.is (sym c.if-is_zero.ensures)))
 
 pub loop-at-preserved-then-not-is_up : goal.loop-at-preserved-then-not-is_up
 loop-at-preserved-then-not-is_up g c =
     (c.loop-at.invariant.0, λ sh E e f. step _ _ sh (c.loop-at.invariant.1 sh E e f) c.loop-at-test.true (Q-down sh _ _ _ _ c.in-Q.is (sym c.if-not-is_up.ensures)))
 
-pub loop-at-preserved-in-81· : goal.loop-at-preserved-in-81·
-loop-at-preserved-in-81· g c =
+pub loop-at-preserved-in-81-1 : goal.loop-at-preserved-in-81-1
+loop-at-preserved-in-81-1 g c =
     (c.loop-at.invariant.0, λ sh E e f. step _ _ sh (c.loop-at.invariant.1 sh E e f) c.loop-at-test.true (Q-up sh _ _ _ _ c.in-Q.is (sym c.if-not-is_up.ensures)))
 
-pub loop-at-preserved-in-74· : goal.loop-at-preserved-in-74·
-loop-at-preserved-in-74· g c =
+pub loop-at-preserved-in-74-1 : goal.loop-at-preserved-in-74-1
+loop-at-preserved-in-74-1 g c =
     (c.loop-at.invariant.0, λ sh E e f. step _ _ sh (c.loop-at.invariant.1 sh E e f) c.loop-at-test.true (J-on sh _ _ _ _ c.in-J.is))
 
 pub loop-at-preserved-then-is_zero-2 : goal.loop-at-preserved-then-is_zero-2
 loop-at-preserved-then-is_zero-2 g c =
     (c.loop-at.invariant.0, λ sh E e f. step _ _ sh (c.loop-at.invariant.1 sh E e f) c.loop-at-test.true (W-zero sh _ _ _ _ c.in-W.is (sym c.if-is_zero-2.ensures)))
 
-pub loop-at-preserved-in-87· : goal.loop-at-preserved-in-87·
-loop-at-preserved-in-87· g c =
-    let d = c.in_ok-left.ensures in
-    let q : c.loop-at.left ≡ suc c.in_ok-left.left = omega (arith, d.0, d.1) in (
+pub loop-at-preserved-in-87-1 : goal.loop-at-preserved-in-87-1
+loop-at-preserved-in-87-1 g c =
+    let d = c.in_ok-left-in-W-2.ensures in
+    let q : c.loop-at.left ≡ suc c.in_ok-left-in-W-2.left = omega (arith, d.0, d.1) in (
       omega (arith, c.loop-at.invariant.0, q),
       λ sh E e f. step _ _ sh (c.loop-at.invariant.1 sh E e f) c.loop-at-test.true (W-turn sh _ _ _ _ c.in-W.is (sym c.if-is_zero-2.ensures) _ q),
     )
 
-pub returns-in_err-left : goal.returns-in_err-left
-returns-in_err-left g c =
+pub returns-in_err-left-in-W-2 : goal.returns-in_err-left-in-W-2
+returns-in_err-left-in-W-2 g c =
     let p = c.args.program.now in
     let room : p.count ≤ length p.instructions = omega (arith, p.full, p.within) in
-    let z : c.loop-at.left ≡ 0 = omega (arith, c.in_err-left.ensures) in
+    let z : c.loop-at.left ≡ 0 = omega (arith, c.in_err-left-in-W-2.ensures) in
     record {
       within = rw c.from_residual.ensures (omega arith);
       ends = λ sh d E k.
@@ -50,20 +50,20 @@ returns-in_err-left g c =
 
 pub loop-at-preserved-then-not-is_zero : goal.loop-at-preserved-then-not-is_zero
 loop-at-preserved-then-not-is_zero g c =
-    let d = c.in_ok-left-2.ensures in
-    let q : c.loop-at.left ≡ suc c.in_ok-left-2.left = omega (arith, d.0, d.1) in (
+    let d = c.in_ok-left-in-K.ensures in
+    let q : c.loop-at.left ≡ suc c.in_ok-left-in-K.left = omega (arith, d.0, d.1) in (
       omega (arith, c.loop-at.invariant.0, q),
       λ sh E e f.
           step _ _ sh (c.loop-at.invariant.1 sh E e f) c.loop-at-test.true
           (K-turn sh _ _ _ _ c.in-K.is c.if-jump-ne0.true (sym c.if-not-is_zero.ensures) _ q _ c.saturating_sub-at.ensures),
     )
 
-pub returns-in_err-left-2 : goal.returns-in_err-left-2
-returns-in_err-left-2 g c =
+pub returns-in_err-left-in-K : goal.returns-in_err-left-in-K
+returns-in_err-left-in-K g c =
     let p = c.args.program.now in
     let room : p.count ≤ length p.instructions = omega (arith, p.full, p.within) in
-    let z : c.loop-at.left ≡ 0 = omega (arith, c.in_err-left-2.ensures) in
-    let none = c.from_residual-in_err-left-2.ensures in
+    let z : c.loop-at.left ≡ 0 = omega (arith, c.in_err-left-in-K.ensures) in
+    let none = c.from_residual-in_err-left-in-K.ensures in
     record {
       within = rw none (omega arith);
       ends = λ sh d E k.
