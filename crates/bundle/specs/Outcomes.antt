@@ -1,6 +1,5 @@
 -- Which rules refused calls.
 use Rattle.std.specs.Prelude.{ℕ, suc, cond, List, [], ◌∷◌, ◌==◌}
-use Rattle.session.specs.declared.events.Event.{Event}
 use Rattle.stream.specs.declared.answers.Answer.{Answer}
 use Rattle.stream.specs.declared.answers.Answer.TheVariants.{Number, Image, Done, Spent, Refused}
 
@@ -11,9 +10,6 @@ outcome (Image image) = 0
 outcome (Done turns) = 0
 outcome (Spent turns) = 0
 outcome (Refused e) = e.number
-
-abbrev pub outcome_of : Event → ℕ
-outcome_of e = outcome e.answer
 
 abbrev pub occurrences : ℕ → List ℕ → ℕ
 occurrences rule [] = 0

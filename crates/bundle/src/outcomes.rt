@@ -1,8 +1,7 @@
 // Which rules refused, and how often.
 ghost use Rattle.std.specs.Prelude.{◌≡◌, ◌++◌, map, OnOk};
-ghost use Rattle.bundle.specs.Outcomes.{outcome, outcome_of, occurrences};
+ghost use Rattle.bundle.specs.Outcomes.{outcome, occurrences};
 
-use session::Event;
 use std::alloc::AllocError;
 use stream::Answer;
 
@@ -16,12 +15,12 @@ fn outcome_of(answer: &Answer) -> u8
     }
 }
 
-/// Adds the outcome of each event: the number of the rule that refused, or 0.
-pub fn note(outcomes: &mut Vec<u8>, events: &[Event]) -> Result<(), AllocError>
-    ensures { OnOk result (outcomes.new.items ≡ outcomes.old.items ++ map outcome_of events.now) }
+/// Adds the outcome of each answer: the number of the rule that refused, or 0.
+pub fn note(outcomes: &mut Vec<u8>, answers: &[Answer]) -> Result<(), AllocError>
+    ensures { OnOk result (outcomes.new.items ≡ outcomes.old.items ++ map outcome answers.now) }
 {
-    for event in events {
-        outcomes.push(outcome_of(&event.answer))?;
+    for answer in answers {
+        outcomes.push(outcome_of(answer))?;
     }
     Ok(())
 }

@@ -3,17 +3,16 @@
 
 use bundle::{note, play, split, times};
 use decoder::decode;
-use session::{Event, NO_EVENT};
 use std::io;
 use std::io::Read;
-use stream::Line;
+use stream::{Answer, Line};
 
 // Prints the lines of a stream.
-fn print_lines(rt: &impl Print, events: &[Event], ended: bool) -> io::Result<()> {
-    for (count, event) in events.iter().enumerate() {
+fn print_lines(rt: &impl Print, answers: &[Answer], ended: bool) -> io::Result<()> {
+    for (count, answer) in answers.iter().enumerate() {
         rt.println(Line {
             count,
-            answer: event.answer,
+            answer: *answer,
         })?;
     }
     if ended { Ok(()) } else { rt.println("stop") }
@@ -39,11 +38,11 @@ fn main(rt: HostRuntime) -> io::Result<()> {
     for (count, stream) in streams.iter().enumerate() {
         let setting = stream.setting;
         let (calls, ended) = decode(rt.alloc(), stream.calls)?;
-        let mut events = vec![in rt.alloc(); NO_EVENT; calls.len()]?;
-        play(setting, calls.as_slice(), &mut events, &mut []);
+        let mut answers = vec![in rt.alloc(); Answer::Number(0); calls.len()]?;
+        play(setting, calls.as_slice(), &mut answers);
         println!(rt; "stream {count} {setting}")?;
-        print_lines(&rt, events.as_slice(), ended)?;
-        note(&mut outcomes, events.as_slice())?;
+        print_lines(&rt, answers.as_slice(), ended)?;
+        note(&mut outcomes, answers.as_slice())?;
     }
     if !whole {
         rt.println("broken")?;

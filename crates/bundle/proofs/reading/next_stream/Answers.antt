@@ -16,10 +16,10 @@ returns-in_default-setting_of c =
     let f : Fit c.in-Some.head = search rules in
     no_setting c.args.bundle.now c.in-Some.rest.now c.in-Some.head f c.in-Some.ensures.2 c.in_default-setting_of.ensures
 
-pub returns-then-size-gt-STREAM-BYTES : goal.returns-then-size-gt-STREAM-BYTES
-returns-then-size-gt-STREAM-BYTES c =
+pub returns-then-size-gt-STREAM_BYTES : goal.returns-then-size-gt-STREAM_BYTES
+returns-then-size-gt-STREAM_BYTES c =
     let f : Fit c.in-Some.head = search rules in
-    too_long c.args.bundle.now c.in-Some.rest.now c.in-Some.head f c.in-Some.ensures.2 c.if-size-gt-STREAM-BYTES.true
+    too_long c.args.bundle.now c.in-Some.rest.now c.in-Some.head f c.in-Some.ensures.2 c.if-size-gt-STREAM_BYTES.true
 
 pub returns-then-size-rest : goal.returns-then-size-rest
 returns-then-size-rest c =
@@ -32,4 +32,4 @@ returns c =
     let xs = c.in-Some.rest.now in
     let n = c.in-Some.head.n in
     let whole : xs ≡ take n xs ++ take (length xs - n) (drop n xs) = sym (take-append-drop n xs) ∙ ap (λ l. take n xs ++ l) (sym (take_all _ (drop n xs) (simp length-drop (omega arith)))) in
-    read c.args.bundle.now xs c.in-Some.head f c.in-Some.ensures.2 _ _ c.in-Some-setting_of.ensures (simp length-take (omega arith)) whole c.if-size-gt-STREAM-BYTES.false
+    read c.args.bundle.now xs c.in-Some.head f c.in-Some.ensures.2 _ _ c.in-Some-setting_of.ensures (simp length-take (omega arith)) whole c.if-size-gt-STREAM_BYTES.false
