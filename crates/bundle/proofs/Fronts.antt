@@ -1,5 +1,5 @@
 -- Which stream stands at the front of a bundle, and one stream more of it. Assumes nothing.
-use Rattle.std.proofs.Common.{◌≡◌, ℕ, ◌+◌, ◌<◌, ◌≤◌, Bool, true, false, eqb, List, [], ◌∷◌, ◌++◌, length, None, sym, refl, ap, ◌∙◌, subst, arith, Bor}
+use Rattle.std.proofs.Common.{◌≡◌, ℕ, ◌<◌, ◌≤◌, Bool, eqb, List, [], ◌∷◌, ◌++◌, length, None, sym, refl, ap, ◌∙◌, subst, arith, Bor}
 use Rattle.std.proofs.lemmas.List.{length-append, append_assoc}
 use Rattle.std.proofs.lemmas.Bool.{eqb-true, eqb-false}
 use Rattle.records.specs.declared.Record.{Record}
@@ -9,7 +9,7 @@ use Rattle.bundle.specs.declared.streams.Setting.{Setting}
 use Rattle.bundle.specs.declared.streams.Stream.{Stream}
 use Rattle.bundle.specs.declared.streams.Next.{Next}
 use Rattle.bundle.specs.declared.streams.Next.TheVariants as next
-use Rattle.bundle.specs.Bundles.{head_of, stream_bytes, HeadRead, StreamRead, NoStream, Reads, Follow, none, one_more, Bundled}
+use Rattle.bundle.specs.Bundles.{head_of, stream_bytes, HeadRead, StreamRead, NoStream, Reads, Follow, Bundled}
 
 pub nothing : {X : Type 0} (xs : List X) → length xs ≡ 0 → xs ≡ []
 nothing [] e = refl

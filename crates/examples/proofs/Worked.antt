@@ -1,7 +1,7 @@
 -- The worked examples, each by its cases. Assumes nothing.
 use Rattle.std.proofs.Common.{◌≡◌, ℕ, Bool, true, false, cond, ◌||◌, eqb, [], ◌∷◌, Decides, refl}
 use Rattle.std.proofs.lemmas.Bool.{both_ways, eqb-true, eq-eqb, or_left}
-use Rattle.lattice.specs.Lattice.{Lattice, Below}
+use Rattle.lattice.specs.Lattice.{Below}
 use Rattle.lattice.specs.Chain.{chain}
 use Rattle.records.specs.Records.{bytes, records}
 use Rattle.policy.specs.Policy.{Set, leaf, erase}

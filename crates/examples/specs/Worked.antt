@@ -1,7 +1,7 @@
 -- Worked examples, gathered: small policies on the chain of the levels 0 to 3, sets of readers, the depth of trees, the machine's
 -- arithmetic, loop and story, and the sparse store's image.
-use Rattle.std.specs.Prelude.{◌≡◌, ℕ, Bool, true, false, List, [], ◌∷◌, ◌++◌, Decides}
-use Rattle.lattice.specs.Lattice.{Lattice, Below}
+use Rattle.std.specs.Prelude.{◌≡◌, ℕ, true, false, List, [], ◌∷◌, ◌++◌, Decides}
+use Rattle.lattice.specs.Lattice.{Below}
 use Rattle.lattice.specs.Chain.{chain}
 use Rattle.lattice.specs.ReaderSets.{reader_sets}
 use Rattle.records.specs.declared.Record.{Record}

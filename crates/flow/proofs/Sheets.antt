@@ -1,5 +1,5 @@
 -- What is decided of the rows of a table is decided of each valid sheet that the table represents. Assumes nothing.
-use Rattle.std.proofs.Common.{◌≡◌, ℕ, ◌+◌, ◌*◌, ◌/◌, ◌%◌, ◌^◌, ◌<◌, ◌≤◌, Bool, true, eqb, length, get_or, Decides, sym, refl, ap, ◌∙◌, subst, inl, inr, arith}
+use Rattle.std.proofs.Common.{◌≡◌, ℕ, ◌+◌, ◌*◌, ◌/◌, ◌%◌, ◌^◌, ◌<◌, Bool, true, eqb, length, get_or, Decides, sym, refl, ap, ◌∙◌, subst, inl, inr, arith}
 use Rattle.std.proofs.lemmas.Nat.{shr-shr, div-add-mod'}
 use Rattle.std.proofs.lemmas.List.{get_or_past}
 use Rattle.std.proofs.lemmas.Bool.{both_ways, cases_lt, cases_eq, ltb-true, lt-ltb}
@@ -12,10 +12,10 @@ use Rattle.policy.proofs.Filled.{holds_present}
 use Rattle.policy.proofs.Masks.{bit_zero, some_bit}
 use Rattle.sheet.specs.declared.rows.Grant.{Grant}
 use Rattle.sheet.specs.declared.rows.SheetTable.{SheetTable}
-use Rattle.sheet.specs.Sheet.{Sheet, Permit, policy_of, level_of, permit_at}
+use Rattle.sheet.specs.Sheet.{Sheet, policy_of, level_of, permit_at}
 use Rattle.sheet.specs.Table.{HoldsPermit, Represents, blank_grant}
 use Rattle.sheet.specs.Valid.{Valid}
-use Rattle.machine.specs.SoundSheet.{SoundSheet, HasVariable, HasCondition, HasPermit}
+use Rattle.machine.specs.SoundSheet.{SoundSheet, HasVariable, HasPermit}
 use Rattle.flow.specs.declared.masks.Inflow.{Inflow}
 use Rattle.flow.specs.declared.masks.PermitFlow.{PermitFlow}
 use Rattle.flow.specs.declared.masks.FlowMasks.{FlowMasks}

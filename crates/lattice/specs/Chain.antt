@@ -1,5 +1,5 @@
 -- The chain with a top: levels 0 to top, ordered as numbers.
-use Rattle.std.specs.Prelude.{ℕ, max, Bool, cond, ◌&&◌, nat_le}
+use Rattle.std.specs.Prelude.{ℕ, max, cond, ◌&&◌, nat_le}
 use Rattle.lattice.specs.Lattice.{Lattice}
 
 abbrev pub chain : ℕ → Lattice

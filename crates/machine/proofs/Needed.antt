@@ -1,5 +1,5 @@
 -- The runs that tell two boxes apart.
-use Rattle.std.proofs.Common.{◌≡◌, ℕ, ◌+◌, true, false, eqb, List, [], ◌∷◌, pos, negsuc, sym, refl, ap, ◌∙◌, true≢false}
+use Rattle.std.proofs.Common.{◌≡◌, ℕ, ◌+◌, false, eqb, List, [], ◌∷◌, pos, negsuc, sym, refl, ap, ◌∙◌, true≢false}
 use Rattle.std.specs.Int.{int_wrap}
 use Rattle.std.proofs.lemmas.Bool.{eq-eqb}
 use Rattle.machine.specs.Calls.{Call, Answer}

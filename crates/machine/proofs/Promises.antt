@@ -1,13 +1,11 @@
 -- The promises are kept.
-use Rattle.std.proofs.Common.{◌≡◌, ℕ, Bool, true, false, cond, List, sym, refl, ap, ◌∙◌, subst}
+use Rattle.std.proofs.Common.{◌≡◌, ℕ, Bool, true, false, cond, sym, refl, ap, ◌∙◌, subst}
 use mathlib.Core.Path.{fun_ext}
 use Rattle.lattice.specs.Lattice.{Known, Lawful}
 use Rattle.policy.specs.Policy.{Set, none}
 use Rattle.sheet.specs.Sheet.{Sheet, policy_of, declared_variable}
 use Rattle.machine.specs.Memory.{Memory}
-use Rattle.machine.specs.Calls.{Call}
-use Rattle.machine.specs.Machine.{Readers, System, State, bare, history, final}
-use Rattle.machine.specs.Observation.{SameInput, observed_answers}
+use Rattle.machine.specs.Machine.{Readers, System, State, bare, final}
 use Rattle.machine.specs.Promises.{AllUp, SoundReaders, SameKind, observing, HiddenCallsLeaveNoTrace, WipedValuesLeaveNoTrace, HiddenLeaveNoTrace, WipedLeaveNoTrace}
 use Rattle.machine.proofs.Policies.{lifted_wiped, wiped_more}
 use Rattle.machine.proofs.Memories.{visible, sees, Agree}

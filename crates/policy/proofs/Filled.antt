@@ -1,5 +1,5 @@
 -- What a policy leaves in a row. Assumes nothing.
-use Rattle.std.proofs.Common.{◌≡◌, ℕ, zero, suc, ◌+◌, ◌<◌, ◌≤◌, Bool, true, false, cond, ◌&&◌, ◌||◌, eqb, ltb, List, [], ◌∷◌, ◌++◌, length, get_or, take, set, sym, refl, ap, ◌∙◌, arith, length-set}
+use Rattle.std.proofs.Common.{◌≡◌, ℕ, zero, suc, ◌+◌, ◌<◌, ◌≤◌, Bool, true, false, cond, ◌&&◌, ◌||◌, eqb, List, [], ◌++◌, length, get_or, set, sym, refl, ap, ◌∙◌, arith, length-set}
 use Rattle.std.proofs.lemmas.List.{append_assoc, append-nil, take_more_set, get_or-take, length-take, length-append}
 use Rattle.std.proofs.lemmas.Bool.{ne_eqb, lt-ltb}
 use Rattle.policy.specs.declared.row.GuardedLevel.{GuardedLevel}

@@ -1,5 +1,5 @@
 -- The order of a lawful lattice, with as few conditions on known levels as it needs. Assumes nothing.
-use Rattle.std.proofs.Common.{◌≡◌, ℕ, Bool, true, false, ◌⊎◌, sym, ap, ◌∙◌, inl, inr}
+use Rattle.std.proofs.Common.{◌≡◌, ℕ, ap, ◌∙◌, inl, inr}
 use Rattle.std.proofs.lemmas.Bool.{both_ways, cases_Bool}
 use Rattle.lattice.specs.Lattice.{Lattice, Lawful, Known, Below}
 

@@ -1,12 +1,12 @@
 -- The level of a row under a set, and the test for flowing. Assumes nothing.
-use Rattle.std.proofs.Common.{◌≡◌, ℕ, zero, suc, ◌+◌, ◌^◌, ◌<◌, ◌≤◌, Bool, true, false, cond, ◌&&◌, ◌⊎◌, List, [], ◌∷◌, ◌++◌, length, get_or, drop, Decides, sym, refl, ap, ◌∙◌, subst, inl, inr, add-one, arith, drop-cons}
+use Rattle.std.proofs.Common.{◌≡◌, ℕ, zero, suc, ◌+◌, ◌^◌, ◌<◌, ◌≤◌, Bool, true, false, cond, ◌&&◌, List, [], ◌∷◌, ◌++◌, length, get_or, drop, Decides, sym, refl, ap, ◌∙◌, subst, add-one, arith, drop-cons}
 use lib.Bits.{bit_and}
 use Rattle.std.proofs.lemmas.List.{append_assoc, append-nil, drop_all}
-use Rattle.std.proofs.lemmas.Bool.{both_ways, cases_Bool, eq-eqb, ne_eqb}
+use Rattle.std.proofs.lemmas.Bool.{both_ways, eq-eqb, ne_eqb}
 use Rattle.lattice.specs.Lattice.{Lattice, Lawful, Known, Below}
 use Rattle.policy.specs.declared.row.GuardedLevel.{GuardedLevel}
 use Rattle.policy.specs.declared.row.Row.{Row}
-use Rattle.policy.specs.Policy.{Set, Policy, leaf, erase, level_under, FlowsTo, KnownLevels, ConditionsBelow}
+use Rattle.policy.specs.Policy.{Set, Policy, leaf, erase, level_under, KnownLevels, ConditionsBelow}
 use Rattle.policy.specs.Masks.{members, within}
 use Rattle.policy.specs.Rows.{including, guarded_levels, levels_in, no_leaf, Holds}
 use Rattle.policy.specs.RowLevels.{join_under, row_level_under, LevelOf, AllKnown, RowFlowsTo, FlowDecided}

@@ -1,6 +1,6 @@
 -- Erasure policies. A policy is a level, or it erases on a condition: the present part says who may know the value now,
 -- and the later part who may know it once the condition has come up.
-use Rattle.std.specs.Prelude.{◌≡◌, ℕ, ◌<◌, Bool, true, false, cond, ◌||◌, ◌==◌}
+use Rattle.std.specs.Prelude.{ℕ, ◌<◌, Bool, false, cond, ◌||◌, ◌==◌}
 use Rattle.lattice.specs.Lattice.{Lattice, Known, Below}
 
 -- a set of numbers, here of conditions

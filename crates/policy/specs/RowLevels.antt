@@ -1,5 +1,5 @@
 -- The level of a row under a set, and when one row flows to another: of every row, whatever it holds.
-use Rattle.std.specs.Prelude.{◌≡◌, ℕ, Bool, true, cond, List, [], ◌∷◌, Decides}
+use Rattle.std.specs.Prelude.{◌≡◌, ℕ, Bool, cond, List, [], ◌∷◌, Decides}
 use Rattle.lattice.specs.Lattice.{Lattice, Known, Below}
 use Rattle.policy.specs.declared.row.GuardedLevel.{GuardedLevel}
 use Rattle.policy.specs.declared.row.Row.{Row}

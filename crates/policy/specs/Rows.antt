@@ -1,6 +1,6 @@
 -- A policy as a row of guarded levels: each leaf with its level and its guard, the conditions on whose later side it lies.
 -- The leaf counts under a set just when the set has its whole guard.
-use Rattle.std.specs.Prelude.{◌≡◌, ℕ, ◌+◌, ◌*◌, ◌%◌, ◌^◌, cond, List, [], ◌∷◌, ◌++◌, take, set, replicate, ◌==◌, bit_or, nat_lt, slice_set}
+use Rattle.std.specs.Prelude.{◌≡◌, ℕ, ◌+◌, ◌*◌, ◌%◌, ◌^◌, cond, List, [], ◌∷◌, ◌++◌, take, replicate, ◌==◌, bit_or, nat_lt, slice_set}
 use Rattle.policy.specs.declared.row.GuardedLevel.{GuardedLevel}
 use Rattle.policy.specs.declared.row.Row.{Row}
 use Rattle.policy.specs.Policy.{Policy, leaf, erase, wipes, ConditionsBelow}

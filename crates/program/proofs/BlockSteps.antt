@@ -19,7 +19,7 @@ use Rattle.program.specs.declared.innermost.RecordKind.TheVariants.{Set, Sign as
 use Rattle.program.specs.declared.kept.Instruction.{Instruction}
 use Rattle.program.specs.Kept.{blank, instruction, size, linked, Placed}
 use Rattle.program.specs.Keeping.{as_written}
-use Rattle.program.specs.Rules.{Test, onVariable, onCondition, branch, Block, then_block, else_block, loop_block, at, Kind, kind, sets, signs, releases, raises, variableTests, conditionTests, loops, ends, none, rest_zero, established, answer}
+use Rattle.program.specs.Rules.{Test, onVariable, onCondition, branch, Block, then_block, else_block, loop_block, at, Kind, kind, sets, signs, releases, raises, variableTests, conditionTests, loops, none, rest_zero, established, answer}
 use Rattle.program.specs.Contexts.{with_variable, with_conditions, inside_of}
 use Rattle.program.specs.Letters.{innermost_of}
 use Rattle.program.specs.Reading.{context_of, Declared, Alike, Refused, Named, Passed, opening, Branches, Stand, Reads, Ends, BlockRead, end_bytes}

@@ -1,6 +1,6 @@
 -- How a program is written: its commands in their order, each as a record, blocks between I or Q and J and K, or between W and K.
 -- Fields not named are zero.
-use Rattle.std.specs.Prelude.{ℕ, ◌+◌, List, [], ◌∷◌, ◌++◌}
+use Rattle.std.specs.Prelude.{ℕ, List, [], ◌∷◌, ◌++◌}
 use Rattle.std.specs.Int.{w32}
 use Rattle.std.proofs.Common.{of_z}
 use Rattle.records.specs.declared.Record.{Record}

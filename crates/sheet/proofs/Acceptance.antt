@@ -1,5 +1,5 @@
 -- The rules accept exactly the valid sheets, as they are written. Assumes nothing.
-use Rattle.std.proofs.Common.{◌≡◌, ℕ, ◌+◌, ◌%◌, true, cond, ◌&&◌, eqb, leb, List, [], ◌∷◌, ◌++◌, length, sym, refl, ap, ◌∙◌, arith}
+use Rattle.std.proofs.Common.{◌≡◌, ℕ, ◌+◌, ◌%◌, true, eqb, leb, List, [], ◌∷◌, ◌++◌, length, sym, ap, ◌∙◌, arith}
 use Rattle.std.proofs.lemmas.Bool.{and_parts, and_from, eqb-true, leb-true, eq-eqb, le-leb}
 use Rattle.lattice.specs.Lattice.{Lattice}
 use Rattle.records.specs.declared.Record.{Record}
@@ -8,7 +8,7 @@ use Rattle.records.specs.Rules.{accepted, rule}
 use Rattle.records.proofs.Firsts.{first_holds, took_all}
 use Rattle.records.proofs.Formats.{records_bytes, bytes_records, length_bytes, length_records, records_fit, each_append}
 use Rattle.policy.specs.Policy.{Policy, leaf, erase}
-use Rattle.sheet.specs.Sheet.{Sheet, Variable, Permit}
+use Rattle.sheet.specs.Sheet.{Sheet}
 use Rattle.sheet.specs.Written.{tree, numbered, condition, variable, permit, written}
 use Rattle.sheet.specs.Valid.{Level, WellFormed, ValidVariable, ValidPermit, Valid}
 use Rattle.sheet.specs.Rules.{answer, start, whole_records, sheet_in}

@@ -1,21 +1,21 @@
 -- A valid sheet, written, is accepted. Assumes nothing.
-use Rattle.std.proofs.Common.{◌≡◌, ℕ, zero, suc, ◌+◌, ◌<◌, ◌≤◌, Bool, true, false, cond, not, ◌&&◌, ◌||◌, eqb, ltb, leb, List, [], ◌∷◌, ◌++◌, length, sym, refl, ap, ◌∙◌, subst, inl, inr, arith}
+use Rattle.std.proofs.Common.{◌≡◌, ℕ, ◌+◌, ◌<◌, ◌≤◌, Bool, true, false, cond, not, ◌&&◌, ◌||◌, eqb, ltb, leb, List, [], ◌∷◌, ◌++◌, length, sym, refl, ap, ◌∙◌, subst, inl, inr, arith}
 use Rattle.std.proofs.lemmas.List.{length-append, append_assoc, append-nil}
-use Rattle.std.proofs.lemmas.Bool.{le-leb, lt-ltb, eq-eqb, cases_Bool, or_cases, eqb-true, and_from}
+use Rattle.std.proofs.lemmas.Bool.{le-leb, lt-ltb, eq-eqb, or_cases, eqb-true, and_from}
 use Rattle.records.specs.declared.Record.{Record}
 use Rattle.lattice.specs.Lattice.{Lattice}
 use Rattle.policy.specs.Policy.{Policy, leaf, erase, wipes, present_level}
-use Rattle.sheet.specs.Sheet.{Sheet, Variable, Permit, declared_condition, level_of, empty}
+use Rattle.sheet.specs.Sheet.{Sheet, Variable, Permit, declared_condition, level_of}
 use Rattle.sheet.specs.Written.{tree, leaf_record, erase_record, condition_record, variable_record, permit_record, numbered, condition, variable, permit, written}
-use Rattle.sheet.specs.Valid.{Level, WellFormed, WipersBelow, ValidVariable, ValidPermit, Valid}
-use Rattle.sheet.specs.Rules.{State, Owner, nobody, a_variable, a_permit, answer, joined, start}
+use Rattle.sheet.specs.Valid.{Level, WellFormed, ValidVariable, ValidPermit, Valid}
+use Rattle.sheet.specs.Rules.{Owner, a_variable, a_permit, answer, joined, start}
 use Rattle.sheet.specs.Checks.{leaf_rules, node_rules, condition_rules, variable_rules, permit_rules}
 use Rattle.sheet.specs.Reading.{at, closed}
 use Rattle.sheet.proofs.Steps as steps
 use Rattle.sheet.proofs.Closed as closing
 use Rattle.records.specs.Records.{Each}
 use Rattle.records.proofs.Firsts.{first_holds, each_holds, implies}
-use Rattle.records.specs.Rules.{Rule, rule, first, each_from, Reading, accepted, refused_by}
+use Rattle.records.specs.Rules.{rule, Reading, accepted}
 use Rattle.policy.specs.Masks.{bit}
 
 module _ (C : Lattice) where

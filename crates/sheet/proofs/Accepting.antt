@@ -1,15 +1,15 @@
 -- What is accepted is a valid sheet, written. Assumes nothing.
-use Rattle.std.proofs.Common.{◌≡◌, ℕ, zero, suc, ◌+◌, ◌/◌, ◌%◌, ◌^◌, ◌<◌, ◌≤◌, Bool, true, false, cond, not, ◌&&◌, ◌||◌, eqb, ltb, leb, List, [], ◌∷◌, ◌++◌, length, sym, refl, ap, ◌∙◌, subst, inl, inr, arith}
+use Rattle.std.proofs.Common.{◌≡◌, ℕ, zero, suc, ◌+◌, ◌^◌, ◌<◌, ◌≤◌, true, false, cond, not, ◌&&◌, ◌||◌, eqb, ltb, leb, List, [], ◌∷◌, ◌++◌, length, sym, refl, ap, ◌∙◌, subst, inl, inr, arith}
 use native.Mathlib.Nat.{pow-le-pow_right, div-eq_of_lt}
 use Rattle.std.proofs.lemmas.List.{length-append, append_assoc, append-nil}
-use Rattle.std.proofs.lemmas.Bool.{leb-true, ltb-true, eqb-true, and_parts, cases_eq, cases_lt, cases_Bool}
+use Rattle.std.proofs.lemmas.Bool.{leb-true, ltb-true, eqb-true, and_parts, cases_eq, cases_lt}
 use Rattle.records.specs.declared.Record.{Record}
-use Rattle.lattice.specs.Lattice.{Lattice, Below}
+use Rattle.lattice.specs.Lattice.{Lattice}
 use Rattle.policy.specs.Policy.{Policy, leaf, erase, wipes, present_level}
 use Rattle.sheet.specs.Sheet.{Sheet, Variable, Permit, declared_condition, level_of}
 use Rattle.sheet.specs.Written.{tree, leaf_record, erase_record, condition_record, variable_record, permit_record, numbered, condition, variable, permit, written}
-use Rattle.sheet.specs.Valid.{Level, WellFormed, WipersBelow, ValidVariable, ValidPermit, Valid}
-use Rattle.sheet.specs.Rules.{Owner, nobody, a_variable, a_permit, declare, answer, joined, none, rest_zero, conditions, variables, permits, leaves, nodes, wipers_below, start}
+use Rattle.sheet.specs.Valid.{Level, WellFormed, ValidVariable, ValidPermit, Valid}
+use Rattle.sheet.specs.Rules.{Owner, a_variable, a_permit, answer, joined, none, rest_zero, conditions, variables, permits, start}
 use Rattle.sheet.specs.Checks.{leaf_rules, node_rules, condition_rules, variable_rules, permit_rules}
 use Rattle.sheet.specs.Reading.{at, closed}
 use Rattle.sheet.proofs.Steps as steps
@@ -19,7 +19,7 @@ use Rattle.sheet.proofs.Accepted.{sheet_of, wipes_declared}
 use Rattle.records.specs.Refusals.{refusal}
 use Rattle.records.specs.Records.{Each, Fit}
 use Rattle.records.proofs.Firsts.{refused_accepted, took_all, took_each, implied}
-use Rattle.records.specs.Rules.{Rule, rule, first, each_from, Reading, accepted, refused_by}
+use Rattle.records.specs.Rules.{Rule, rule, first, each_from, accepted}
 use Rattle.policy.specs.Masks.{bit}
 
 module _ (C : Lattice) where

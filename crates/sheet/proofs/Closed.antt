@@ -1,16 +1,15 @@
 -- The answer one record on, where no tree is awaited. Assumes nothing.
-use Rattle.std.proofs.Common.{◌≡◌, ℕ, zero, suc, ◌+◌, ◌<◌, ◌≤◌, Bool, true, false, cond, not, ◌&&◌, ◌||◌, eqb, ltb, leb, List, [], ◌∷◌, ◌++◌, length, sym, refl, ap, ◌∙◌, subst, arith}
+use Rattle.std.proofs.Common.{◌≡◌, ℕ, ◌+◌, Bool, true, false, cond, ◌&&◌, eqb, List, [], ◌∷◌, length, refl, ap, ◌∙◌}
 use Rattle.std.proofs.lemmas.Bool.{ne_eqb}
 use Rattle.records.specs.declared.Record.{Record}
 use Rattle.lattice.specs.Lattice.{Lattice}
 use Rattle.policy.specs.Policy.{Policy}
-use Rattle.sheet.specs.Sheet.{Sheet, Variable, Permit, declared_condition}
-use Rattle.sheet.specs.Rules.{State, Owner, nobody, a_variable, a_permit, declare, answer, asked, established, kind, Kind, conditions, variables, permits, leaves, nodes, others, may_stand, rest_zero, next_number, none, wipers_below}
+use Rattle.sheet.specs.Sheet.{Sheet}
+use Rattle.sheet.specs.Rules.{Owner, a_variable, a_permit, declare, answer, asked, established, kind, Kind, conditions, variables, permits, leaves, nodes, others, may_stand, none, wipers_below}
 use Rattle.sheet.specs.Checks.{condition_rules, variable_rules, permit_rules, mask_rules}
 use Rattle.sheet.specs.Reading.{at, closed, with_condition}
 use Rattle.records.proofs.Firsts.{first_append}
-use Rattle.records.specs.Rules.{Rule, rule, first, each_from, Reading, accepted, refused_by}
-use Rattle.policy.specs.Masks.{bit}
+use Rattle.records.specs.Rules.{rule, first, accepted, refused_by}
 
 module _ (C : Lattice) (place : ℕ) (sh : Sheet) where
   module _ (owner : Owner) (trees : List Policy → List Policy) where

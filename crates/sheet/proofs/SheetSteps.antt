@@ -1,10 +1,10 @@
 -- The whole sheet, item by item. Assumes nothing.
-use Rattle.std.proofs.Common.{◌≡◌, ℕ, ◌%◌, ◌≤◌, Bool, false, eqb, leb, List, [], ◌∷◌, length, sym, refl, ap, ◌∙◌, subst}
+use Rattle.std.proofs.Common.{◌≡◌, ℕ, ◌%◌, ◌≤◌, Bool, false, eqb, leb, List, [], ◌∷◌, length, sym, ap, ◌∙◌, subst}
 use Rattle.std.proofs.lemmas.Bool.{cond-true, cond-false, and_from, eq-eqb, le-leb}
 use Rattle.lattice.specs.Lattice.{Lattice}
 use Rattle.records.specs.declared.Record.{Record}
 use Rattle.records.specs.declared.refusal.Refusal.{Refusal}
-use Rattle.records.specs.Records.{Each, Byte, bytes, records}
+use Rattle.records.specs.Records.{Each, Byte, records}
 use Rattle.records.specs.Refusals.{refusal}
 use Rattle.records.specs.Rules.{accepted, refused}
 use Rattle.records.proofs.Firsts.{refused_accepted}

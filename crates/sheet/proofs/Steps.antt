@@ -1,9 +1,9 @@
 -- The answer one record on, where a tree is awaited. Assumes nothing.
-use Rattle.std.proofs.Common.{◌≡◌, ℕ, ◌+◌, Bool, true, false, cond, ◌&&◌, eqb, ltb, leb, List, [], ◌∷◌, length, sym, refl, ap, ◌∙◌, subst, inl, inr}
-use Rattle.std.proofs.lemmas.Bool.{cases_Bool, ne_eqb}
+use Rattle.std.proofs.Common.{◌≡◌, ℕ, ◌+◌, Bool, true, false, cond, eqb, List, [], ◌∷◌, length, refl}
+use Rattle.std.proofs.lemmas.Bool.{ne_eqb}
 use Rattle.records.specs.declared.Record.{Record}
 use Rattle.lattice.specs.Lattice.{Lattice}
-use Rattle.policy.specs.Policy.{Policy, leaf, erase}
+use Rattle.policy.specs.Policy.{Policy, leaf}
 use Rattle.sheet.specs.Sheet.{Sheet}
 use Rattle.sheet.specs.Rules.{State, Owner, answer, kind, Kind, leaves, nodes, may_stand, joined}
 use Rattle.sheet.specs.Reading.{at}

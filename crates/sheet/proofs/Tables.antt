@@ -1,11 +1,9 @@
 -- Tables of a sheet. Assumes nothing.
-use Rattle.std.proofs.Common.{◌≡◌, ℕ, zero, suc, ◌+◌, ◌<◌, ◌≤◌, ◌≢◌, List, [], ◌∷◌, ◌++◌, length, get_or, set, replicate, sym, refl, ap, ◌∙◌, subst, inl, inr, arith, length-set}
+use Rattle.std.proofs.Common.{◌≡◌, ℕ, zero, suc, ◌<◌, ◌≤◌, ◌≢◌, List, [], ◌∷◌, ◌++◌, length, get_or, set, replicate, sym, refl, ap, ◌∙◌, subst, inl, inr, arith}
 use Rattle.std.proofs.lemmas.List.{length-append, get_or_append_left, get_or-set_same, get_or-set_other}
 use Rattle.std.proofs.lemmas.Bool.{cases_eq}
-use Rattle.policy.specs.declared.row.Row.{Row}
 use Rattle.sheet.specs.declared.rows.VariableRow.{VariableRow}
 use Rattle.sheet.specs.declared.rows.Grant.{Grant}
-use Rattle.sheet.specs.declared.rows.SheetTable.{SheetTable}
 use Rattle.sheet.specs.Sheet.{empty}
 use Rattle.sheet.specs.Table.{blank_variable, Represents}
 

@@ -1,5 +1,5 @@
 -- A variable's record and its tree against the rules. Assumes nothing.
-use Rattle.std.proofs.Common.{◌≡◌, ℕ, ◌+◌, ◌<◌, ◌≤◌, Bool, true, false, not, ◌&&◌, ◌||◌, eqb, ltb, List, [], ◌∷◌, ◌++◌, length, get_or, set, Ok, Err, Result, sym, refl, ap, ◌∙◌, subst, ap₂, inl, inr, arith, length-set}
+use Rattle.std.proofs.Common.{◌≡◌, ℕ, ◌+◌, ◌<◌, ◌≤◌, Bool, true, false, not, ◌||◌, eqb, ltb, List, [], ◌∷◌, length, get_or, set, Ok, Err, sym, refl, ap, ◌∙◌, subst, ap₂, inl, inr, arith, length-set}
 use Rattle.std.proofs.lemmas.List.{length-append}
 use Rattle.std.proofs.lemmas.Bool.{and_parts, eqb-true, ltb-true, or_cases, both_ways}
 use Rattle.lattice.specs.Lattice.{Lattice}
@@ -7,7 +7,6 @@ use Rattle.records.specs.declared.Record.{Record}
 use Rattle.records.specs.declared.refusal.Refusal.{Refusal}
 use Rattle.records.specs.Rules.{Reading, refused, Rule, rule, each_from, first, judged}
 use Rattle.records.proofs.Firsts.{first_holds, each_same, judged_ok, judged_err}
-use Rattle.policy.specs.declared.row.GuardedLevel.{GuardedLevel}
 use Rattle.policy.specs.declared.row.Row.{Row}
 use Rattle.policy.specs.Policy.{Policy, leaf, erase, wipes, present_level}
 use Rattle.policy.specs.Masks.{bit}

@@ -1,5 +1,5 @@
 -- One call more of a stream, and its end. Assumes nothing.
-use Rattle.std.proofs.Common.{◌≡◌, ℕ, ◌+◌, ◌<◌, Bool, true, false, eqb, List, [], ◌∷◌, ◌++◌, length, sym, refl, ap, ◌∙◌, subst, arith, Bor}
+use Rattle.std.proofs.Common.{◌≡◌, ℕ, ◌<◌, Bool, eqb, List, [], ◌∷◌, length, sym, refl, ap, ◌∙◌, arith, Bor}
 use Rattle.std.proofs.lemmas.List.{length-append}
 use Rattle.std.proofs.lemmas.Bool.{eqb-true, eqb-false}
 use Rattle.records.specs.Records.{bytes}
@@ -7,8 +7,8 @@ use Rattle.records.proofs.Formats.{length_bytes}
 use Rattle.stream.specs.declared.calls.Call.{Call}
 use Rattle.stream.specs.declared.calls.Next.{Next}
 use Rattle.stream.specs.declared.calls.Next.TheVariants as next
-use Rattle.stream.specs.Calls.{head_of, body_of, call_bytes, heard, CallRead, NoCall, Reads}
-use Rattle.sitebox.specs.Decoding.{Follow, none, one_more, Decoded}
+use Rattle.stream.specs.Calls.{head_of, body_of, call_bytes, heard, CallRead, Reads}
+use Rattle.sitebox.specs.Decoding.{Follow, Decoded}
 
 -- a call takes eight bytes at least
 pub shorter : (left rest : List ℕ) (call : Call) → CallRead left call rest → length rest < length left

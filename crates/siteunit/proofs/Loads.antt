@@ -1,6 +1,5 @@
 -- A program that is loaded. Assumes nothing.
-use Rattle.std.proofs.Common.{◌≡◌, ℕ, List, ℤ, Some, Option, sym, refl, ap, ◌∙◌}
-use mathlib.Core.Option as option
+use Rattle.std.proofs.Common.{◌≡◌, ℕ, List, ℤ, Some, Option, refl, ap, ◌∙◌}
 use Rattle.lattice.specs.Lattice.{Lattice, Lawful}
 use Rattle.records.specs.declared.refusal.Refusal.{Refusal}
 use Rattle.records.specs.Rules.{accepted}

@@ -1,13 +1,13 @@
 -- One step of the machine, over the plain values that a box holds. Assumes nothing.
-use Rattle.std.proofs.Common.{◌≡◌, ℕ, ◌<◌, ◌≤◌, Bool, true, false, cond, not, List, [], ◌∷◌, length, get_or, set, ℤ, pos, Some, None, Ok, Err, Option, Result, sym, refl, ap, ◌∙◌, subst, arith}
+use Rattle.std.proofs.Common.{◌≡◌, ℕ, ◌<◌, ◌≤◌, Bool, true, false, cond, not, List, [], ◌∷◌, get_or, ℤ, pos, Some, None, Ok, Err, Option, Result, sym, refl, ap, ◌∙◌, subst, arith}
 use mathlib.Core.Option as program
 use lib.Bits.{bit_and}
-use Rattle.std.proofs.lemmas.Bool.{eq-eqb, ne_eqb, lt-ltb, le-ltb, ltb-true}
+use Rattle.std.proofs.lemmas.Bool.{eq-eqb, ne_eqb, lt-ltb, le-ltb}
 use Rattle.lattice.specs.Lattice.{Lattice}
 use Rattle.records.specs.declared.refusal.Refusal.{Refusal}
 use Rattle.records.specs.Refusals.{refusal}
 use Rattle.policy.specs.Policy.{wiped_by}
-use Rattle.policy.specs.Masks.{bit, members}
+use Rattle.policy.specs.Masks.{members}
 use Rattle.policy.proofs.Masks.{wiped_mask}
 use Rattle.sheet.specs.Sheet.{Sheet, policy_of, variable_at, level_of, declared_variable, declared_condition}
 use Rattle.machine.specs.Command.{Command}

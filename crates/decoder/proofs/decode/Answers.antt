@@ -1,4 +1,4 @@
-use Rattle.std.proofs.Common.{◌≡◌, List, [], ◌∷◌, ◌++◌, vec_items, sym, refl, ap, ◌∙◌, subst}
+use Rattle.std.proofs.Common.{vec_items, sym, subst}
 use Rattle.decoder.specs.Decoding.{Follow, none, one_more}
 use Rattle.decoder.proofs.Reading.{shorter, decoded}
 use Rattle.decoder.proofs.decode.Goals as goal

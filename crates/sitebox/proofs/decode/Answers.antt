@@ -1,4 +1,4 @@
-use Rattle.std.proofs.Common.{◌≡◌, List, [], ◌∷◌, ◌++◌, vec_items, sym, refl, ap, ◌∙◌, subst}
+use Rattle.std.proofs.Common.{vec_items, sym, subst}
 use Rattle.sitebox.specs.Decoding.{Follow, none, one_more}
 use Rattle.sitebox.proofs.Reading.{shorter, decoded}
 use Rattle.sitebox.proofs.decode.Goals as goal

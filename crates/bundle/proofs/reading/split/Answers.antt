@@ -1,4 +1,4 @@
-use Rattle.std.proofs.Common.{◌≡◌, List, [], ◌∷◌, ◌++◌, vec_items, sym, refl, ap, ◌∙◌, subst}
+use Rattle.std.proofs.Common.{vec_items, sym, subst}
 use Rattle.bundle.specs.Bundles.{Follow, none, one_more}
 use Rattle.bundle.proofs.Fronts.{shorter, bundled}
 use Rattle.bundle.proofs.reading.split.Goals as goal

@@ -1,4 +1,4 @@
-use Rattle.std.proofs.Common.{◌≡◌, ℕ, ◌<◌, Bool, true, false, length, arith}
+use Rattle.std.proofs.Common.{◌≡◌, ◌<◌, Bool, true, false, length, arith}
 use Rattle.policy.specs.declared.row.Row.{Row}
 use Rattle.policy.specs.RowLevels.{FlowDecided}
 use Rattle.sheet.specs.Table.{blank_variable}

@@ -1,4 +1,4 @@
-use Rattle.std.proofs.Common.{refl, rules}
+use Rattle.std.proofs.Common.{refl}
 use Rattle.session.proofs.dispatch.show.Goals as goal
 
 pub invariant_of-result : goal.invariant_of-result

@@ -1,4 +1,4 @@
-use Rattle.std.proofs.Common.{◌≡◌, ℕ, not, ◌||◌, get_or, sym, ◌∙◌, arith}
+use Rattle.std.proofs.Common.{ℕ, not, ◌||◌, get_or, sym, arith}
 use Rattle.policy.specs.Masks.{bit}
 use Rattle.records.specs.Rules.{Rule, rule}
 use Rattle.records.proofs.Firsts.{each_refuses}

@@ -1,4 +1,4 @@
-use Rattle.std.proofs.Common.{◌≡◌, ℕ, Bool, get_or, sym, ◌∙◌}
+use Rattle.std.proofs.Common.{ℕ, Bool, get_or, sym}
 use Rattle.siteunit.specs.Standing.{no_access}
 use Rattle.siteunit.proofs.Images.{every_more, every_not}
 use Rattle.siteunit.proofs.calls.all_below.Goals as goal

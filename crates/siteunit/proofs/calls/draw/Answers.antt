@@ -1,4 +1,4 @@
-use Rattle.std.proofs.Common.{◌≡◌, get_or, set, sym, ap, ◌∙◌, zero-add, arith}
+use Rattle.std.proofs.Common.{get_or, set, sym, ap, ◌∙◌, zero-add, arith}
 use lib.Seq.{paste}
 use Rattle.std.proofs.lemmas.List.Edits.{paste_more}
 use Rattle.siteunit.proofs.calls.draw.Goals as goal

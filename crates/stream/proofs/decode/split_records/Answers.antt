@@ -1,4 +1,4 @@
-use Rattle.std.proofs.Common.{◌≡◌, ◌*◌, ◌++◌, length, take, drop, sym, refl, ap, ◌∙◌, arith, length-drop, length-take, take_all}
+use Rattle.std.proofs.Common.{◌*◌, ◌++◌, take, drop, sym, ap, ◌∙◌, arith, length-drop, length-take, take_all}
 use Rattle.std.proofs.lemmas.List.{take-append-drop}
 use Rattle.stream.proofs.decode.split_records.Goals as goal
 

@@ -1,4 +1,4 @@
-use Rattle.std.proofs.Common.{take, refl, ap}
+use Rattle.std.proofs.Common.{refl, ap}
 use Rattle.stream.proofs.Writing.{put_is, put_more}
 use Rattle.std.proofs.lemmas.List.{take_all}
 use Rattle.stream.specs.Lines.{hexadecimal}

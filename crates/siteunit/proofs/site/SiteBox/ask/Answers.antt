@@ -1,5 +1,4 @@
-use Rattle.std.proofs.Common.{◌≡◌, sym, refl, ap, ◌∙◌}
-use Rattle.machine.specs.Calls.{Answer}
+use Rattle.std.proofs.Common.{sym, refl, ap, ◌∙◌}
 use Rattle.policy.proofs.Masks.{bit_test}
 use Rattle.siteunit.specs.Obeying.{one_if}
 use Rattle.siteunit.proofs.Steps.{yes, stays, has_condition, is_askable, obeys, accepts}

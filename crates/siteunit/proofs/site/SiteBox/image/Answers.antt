@@ -1,4 +1,4 @@
-use Rattle.std.proofs.Common.{◌≡◌, length, sym, refl, ap, ◌∙◌}
+use Rattle.std.proofs.Common.{sym, refl, ap, ◌∙◌}
 use Rattle.machine.specs.Calls.{Answer}
 use Rattle.machine.specs.Machine.{answered}
 use Rattle.siteunit.proofs.Images.{all_readable, shown, too_short, has_room, front, fills, untouched}

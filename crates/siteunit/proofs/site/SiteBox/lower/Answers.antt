@@ -1,4 +1,4 @@
-use Rattle.std.proofs.Common.{◌≡◌, ◌<◌, sym, refl, ap, ◌∙◌}
+use Rattle.std.proofs.Common.{◌<◌, refl}
 use Rattle.machine.specs.Memory.{lowered}
 use Rattle.machine.proofs.Memories.{memory_ext}
 use Rattle.interpreter.specs.Meaning.{memory_of}

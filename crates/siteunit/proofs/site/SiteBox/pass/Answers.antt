@@ -1,4 +1,4 @@
-use Rattle.std.proofs.Common.{◌≡◌, refl}
+use Rattle.std.proofs.Common.{refl}
 use Rattle.siteunit.proofs.Steps.{passes, enforces, obeys, accepts}
 use Rattle.siteunit.proofs.site.SiteBox.pass.Goals as goal
 

@@ -1,4 +1,4 @@
-use Rattle.std.proofs.Common.{◌≡◌, ℕ, ◌<◌, sym, refl, ap, ◌∙◌, arith}
+use Rattle.std.proofs.Common.{◌<◌, refl, arith}
 use Rattle.machine.specs.Memory.{raised}
 use Rattle.interpreter.specs.Meaning.{memory_of}
 use Rattle.siteunit.proofs.Steps.{yes, moves, has_condition, enforces, obeys, accepts}
