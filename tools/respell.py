@@ -46,9 +46,16 @@ def declared():
         for line in open(file):
             if line.strip().startswith("--"):
                 continue
-            m = re.match(r"^( *)(abbrev |unfoldable )?(pub )?([^\s(){}.,;:◌]+) : (.*)$", line.rstrip("\n"))
-            if m and not re.match(r"(goal|need)\.", m.group(5)):
-                names[m.group(4)].add(file)
+            # one name, or several fields or constructors of one type; and the names that an import gives
+            m = re.match(r"^( *)(abbrev |unfoldable )?(pub )?((?:[^\s(){}.,;:◌]+ )+): (.*)$", line.rstrip("\n"))
+            if m and not re.match(r"(goal|need)\.", m.group(5)) and not {"=", "let"} & set(m.group(4).split()):
+                for name in m.group(4).split():
+                    names[name].add(file)
+    for file in list(texts()) + sorted(glob.glob("crates/*/src/**/*.rt", recursive=True)):
+        for line in open(file):
+            if re.match(r"(ghost )?use ", line):
+                for name in re.findall(r" as ([a-z][A-Za-z0-9_]*)", line):
+                    names[name].add(file)
     return names
 
 

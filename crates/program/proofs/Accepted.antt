@@ -14,7 +14,7 @@ use Rattle.machine.specs.Command.{Command, skip, ◌⨾◌, set, combine, releas
 use Rattle.machine.specs.Typing.{Context, outermost, under_variable, under_condition, under_conditions, ContextFlowsTo, WellTyped}
 use Rattle.program.specs.Deciding.{flows}
 use Rattle.program.specs.Written.{fields, letter_of, written}
-use Rattle.program.specs.Rules.{Test, onVariable, onCondition, tested, branch, Block, then_block, else_block, loop_block, at, widest, each_within, answer, start}
+use Rattle.program.specs.Rules.{Test, on_variable, on_condition, tested, branch, Block, then_block, else_block, loop_block, at, widest, each_within, answer, start}
 use Rattle.program.specs.Checks.{set_fields, three_fields, raise_fields, variable_test_fields, condition_test_fields}
 use Rattle.program.specs.Valid.{Nested, NumbersFit, Valid, before, normal}
 use Rattle.program.specs.Acceptance.{UsableSheet}
@@ -29,8 +29,8 @@ abbrev K : Record
 K = fields 75 0 0 0
 
 abbrev test_record : Test → Record
-test_record (onVariable v) = fields 73 0 v 0
-test_record (onCondition c) = fields 81 c 0 0
+test_record (on_variable v) = fields 73 0 v 0
+test_record (on_condition c) = fields 81 c 0 0
 
 three_parts : {X : Type 0} (xs ys ws : List X) (y z : X) → (xs ++ (y ∷ (ys ++ (z ∷ [])))) ++ ws ≡ xs ++ (y ∷ (ys ++ (z ∷ ws)))
 three_parts xs ys ws y z = append_assoc xs (y ∷ (ys ++ (z ∷ []))) ws ∙ ap (λ l. xs ++ (y ∷ l)) (append_assoc ys (z ∷ []) ws)
@@ -101,17 +101,17 @@ module _ {C : Lattice} (W : Lawful C) (sh : Sheet) (U : UsableSheet C sh) (a : R
       let d' = declared_variable_lem sh b pc t.0 d in
       steps.variable_test_step C sh place blocks pc commands (fields 73 0 b 0) _ refl
       ∙ first_holds (variable_test_fields (fields 73 0 b 0) place (length sh.variables) (length blocks)) _ (refl, (t.0, (le-leb (length blocks + 1) 8 n.0, tt)))
-      ∙ test_goes (onVariable b) c e blocks pc (place + 1) commands rest
-      (goes c (then_block (onVariable b) pc commands ∷ blocks) (under_variable b pc) d' t.1 (deeper (length blocks) c n.1) f.0)
-      (goes e (else_block (onVariable b) (normal c) pc commands ∷ blocks) (under_variable b pc) d' t.2 (deeper (length blocks) e n.2) f.1)
+      ∙ test_goes (on_variable b) c e blocks pc (place + 1) commands rest
+      (goes c (then_block (on_variable b) pc commands ∷ blocks) (under_variable b pc) d' t.1 (deeper (length blocks) c n.1) f.0)
+      (goes e (else_block (on_variable b) (normal c) pc commands ∷ blocks) (under_variable b pc) d' t.2 (deeper (length blocks) e n.2) f.1)
       k
   goes (if_condition b c e) blocks pc d t n f place commands rest k =
       let d' = declared_condition_lem sh b pc t.0 d in
       steps.condition_test_step C sh place blocks pc commands (fields 81 b 0 0) _ refl
       ∙ first_holds (condition_test_fields (fields 81 b 0 0) place (length sh.conditions) (length blocks)) _ (refl, (t.0, (le-leb (length blocks + 1) 8 n.0, tt)))
-      ∙ test_goes (onCondition b) c e blocks pc (place + 1) commands rest
-      (goes c (then_block (onCondition b) pc commands ∷ blocks) (under_condition b pc) d' t.1 (deeper (length blocks) c n.1) f.0)
-      (goes e (else_block (onCondition b) (normal c) pc commands ∷ blocks) (under_condition b pc) d' t.2 (deeper (length blocks) e n.2) f.1)
+      ∙ test_goes (on_condition b) c e blocks pc (place + 1) commands rest
+      (goes c (then_block (on_condition b) pc commands ∷ blocks) (under_condition b pc) d' t.1 (deeper (length blocks) c n.1) f.0)
+      (goes e (else_block (on_condition b) (normal c) pc commands ∷ blocks) (under_condition b pc) d' t.2 (deeper (length blocks) e n.2) f.1)
       k
   goes (while b c) blocks pc d t n f place commands rest k =
       let d' = declared_variable_lem sh b pc t.0 d in

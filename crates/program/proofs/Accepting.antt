@@ -18,7 +18,7 @@ use Rattle.machine.specs.SoundSheet.{HasVariable}
 use Rattle.machine.specs.Typing.{Context, outermost, under_variable, under_condition, under_conditions, ContextFlowsTo, WellTyped}
 use Rattle.program.specs.Deciding.{flows}
 use Rattle.program.specs.Written.{fields, letter_of, written}
-use Rattle.program.specs.Rules.{Test, onVariable, onCondition, tested, branch, Block, then_block, else_block, loop_block, at, Kind, kind, sets, signs, releases, raises, variableTests, conditionTests, loops, elses, ends, others, rest_zero, widest, answer, start}
+use Rattle.program.specs.Rules.{Test, on_variable, on_condition, tested, branch, Block, then_block, else_block, loop_block, at, Kind, kind, sets, signs, releases, raises, variable_tests, condition_tests, loops, elses, ends, others, rest_zero, widest, answer, start}
 use Rattle.program.specs.Checks.{set_fields, three_fields, raise_fields, variable_test_fields, condition_test_fields, mark_fields}
 use Rattle.program.specs.Valid.{Nested, NumbersFit}
 use Rattle.program.specs.Acceptance.{UsableSheet}
@@ -33,8 +33,8 @@ Spelled l sets = l ≡ 83
 Spelled l (signs s) = l ≡ letter_of s
 Spelled l releases = l ≡ 68
 Spelled l raises = l ≡ 85
-Spelled l variableTests = l ≡ 73
-Spelled l conditionTests = l ≡ 81
+Spelled l variable_tests = l ≡ 73
+Spelled l condition_tests = l ≡ 81
 Spelled l loops = l ≡ 87
 Spelled l elses = l ≡ 74
 Spelled l ends = l ≡ 75
@@ -152,8 +152,8 @@ shallower : (n : ℕ) (c : Command) → Nested (suc n + 1) c → Nested (n + 1 +
 shallower n c h = subst (λ m. Nested m c) (omega arith) h
 
 test_record : Test → Record
-test_record (onVariable v) = fields 73 0 v 0
-test_record (onCondition c) = fields 81 c 0 0
+test_record (on_variable v) = fields 73 0 v 0
+test_record (on_condition c) = fields 81 c 0 0
 
 -- `F` grants that the numbers read have 32 bits
 module _ {C : Lattice} (W : Lawful C) (sh : Sheet) (U : UsableSheet C sh) (F : Type 0) where
@@ -260,8 +260,8 @@ module _ {C : Lattice} (W : Lawful C) (sh : Sheet) (U : UsableSheet C sh) (F : T
 
   branch_written : (t : Test) (c d : Command) → written (branch t c d) ≡ test_record t ∷ (written c ++ (fields 74 0 0 0 ∷ (written d ++ (fields 75 0 0 0 ∷ []))))
   unfolding written test_record
-  branch_written (onVariable v) c d = refl
-  branch_written (onCondition a) c d = refl
+  branch_written (on_variable v) c d = refl
+  branch_written (on_condition a) c d = refl
 
   closes_test : (t : Test) (c : Command) (blocks : List Block) (around : Context) (depth : ℕ) (before commands : Command → Command) (r : Record) (rs : List Record) (x : Command)
       → Front around depth before → r ≡ fields 75 0 0 0 → Got blocks (λ k. before (branch t c (commands skip) ⨾ k)) rs x → Got (else_block t c around before ∷ blocks) commands (r ∷ rs) x
@@ -289,8 +289,8 @@ module _ {C : Lattice} (W : Lawful C) (sh : Sheet) (U : UsableSheet C sh) (F : T
 
   -- a test and its two blocks, and a loop, are whole
   whole_test : (t : Test) (pc : Context) (n : ℕ) (c d : Command) → HasTested sh t → n + 1 ≤ 8 → Whole (tested t pc) (n + 1 + 1) c → Whole (tested t pc) (n + 1 + 1) d → Whole pc (n + 1) (branch t c d)
-  whole_test (onVariable v) pc n c d h l w z = record { typed = (h, w.typed, z.typed); nested = (l, w.nested, z.nested); numbers = λ g. (w.numbers g, z.numbers g) }
-  whole_test (onCondition a) pc n c d h l w z = record { typed = (h, w.typed, z.typed); nested = (l, w.nested, z.nested); numbers = λ g. (w.numbers g, z.numbers g) }
+  whole_test (on_variable v) pc n c d h l w z = record { typed = (h, w.typed, z.typed); nested = (l, w.nested, z.nested); numbers = λ g. (w.numbers g, z.numbers g) }
+  whole_test (on_condition a) pc n c d h l w z = record { typed = (h, w.typed, z.typed); nested = (l, w.nested, z.nested); numbers = λ g. (w.numbers g, z.numbers g) }
 
   -- the block that ends, under the context in which it began
   inner : (pc pc' : Context) (n : ℕ) (commands : Command → Command) → pc ≡ pc' → Front pc (suc n + 1) commands → Whole pc' (n + 1 + 1) (commands skip)
@@ -395,8 +395,8 @@ module _ {C : Lattice} (W : Lawful C) (sh : Sheet) (U : UsableSheet C sh) (F : T
         let t = took_all (variable_test_fields r place (length sh.variables) (length blocks)) _ x (sym (steps.variable_test_step C sh place blocks pc commands r rs e) ∙ h) in
         let has = t.0.1.0 in
         let within = under_variable r.b pc in
-        opens_test (onVariable r.b) blocks pc commands r rs x (second_is r 73 e t.0.0)
-        (next (place + 1) (then_block (onVariable r.b) pc commands ∷ blocks) within (λ k. k) x (declared_variable_lem sh r.b pc has d) (nothing within (suc (length blocks) + 1))
+        opens_test (on_variable r.b) blocks pc commands r rs x (second_is r 73 e t.0.0)
+        (next (place + 1) (then_block (on_variable r.b) pc commands ∷ blocks) within (λ k. k) x (declared_variable_lem sh r.b pc has d) (nothing within (suc (length blocks) + 1))
         (record { declared = d; front = f; depth = leb-true (length blocks + 1) 8 t.0.1.1.0 }, has, refl, st) t.1)
 
     read_condition_test : r.letter ≡ 81 → Reads (r ∷ rs)
@@ -405,8 +405,8 @@ module _ {C : Lattice} (W : Lawful C) (sh : Sheet) (U : UsableSheet C sh) (F : T
         let t = took_all (condition_test_fields r place (length sh.conditions) (length blocks)) _ x (sym (steps.condition_test_step C sh place blocks pc commands r rs e) ∙ h) in
         let has = t.0.1.0 in
         let within = under_condition r.a pc in
-        opens_test (onCondition r.a) blocks pc commands r rs x (first_is r 81 e t.0.0)
-        (next (place + 1) (then_block (onCondition r.a) pc commands ∷ blocks) within (λ k. k) x (declared_condition_lem sh r.a pc has d) (nothing within (suc (length blocks) + 1))
+        opens_test (on_condition r.a) blocks pc commands r rs x (first_is r 81 e t.0.0)
+        (next (place + 1) (then_block (on_condition r.a) pc commands ∷ blocks) within (λ k. k) x (declared_condition_lem sh r.a pc has d) (nothing within (suc (length blocks) + 1))
         (record { declared = d; front = f; depth = leb-true (length blocks + 1) 8 t.0.1.1.0 }, has, refl, st) t.1)
 
     read_loop : r.letter ≡ 87 → Reads (r ∷ rs)
@@ -458,8 +458,8 @@ module _ {C : Lattice} (W : Lawful C) (sh : Sheet) (U : UsableSheet C sh) (F : T
     read_record (signs s) e l = read_sign s l
     read_record releases e l = read_release l
     read_record raises e l = read_raise l
-    read_record variableTests e l = read_variable_test l
-    read_record conditionTests e l = read_condition_test l
+    read_record variable_tests e l = read_variable_test l
+    read_record condition_tests e l = read_condition_test l
     read_record loops e l = read_loop l
     read_record elses e l = read_else l
     read_record ends e l = read_end_mark l

@@ -19,7 +19,7 @@ use Rattle.program.specs.declared.innermost.RecordKind.TheVariants.{Set, Sign as
 use Rattle.program.specs.declared.kept.Instruction.{Instruction}
 use Rattle.program.specs.Kept.{blank, instruction, size, linked, Placed}
 use Rattle.program.specs.Keeping.{as_written}
-use Rattle.program.specs.Rules.{Test, onVariable, onCondition, branch, Block, then_block, else_block, loop_block, at, Kind, kind, sets, signs, releases, raises, variableTests, conditionTests, loops, none, rest_zero, established, answer}
+use Rattle.program.specs.Rules.{Test, on_variable, on_condition, branch, Block, then_block, else_block, loop_block, at, Kind, kind, sets, signs, releases, raises, variable_tests, condition_tests, loops, none, rest_zero, established, answer}
 use Rattle.program.specs.Contexts.{with_variable, with_conditions, inside_of}
 use Rattle.program.specs.Letters.{innermost_of}
 use Rattle.program.specs.Reading.{context_of, Declared, Alike, Refused, Named, Passed, opening, Branches, Stand, Reads, Ends, BlockRead, end_bytes}
@@ -299,27 +299,27 @@ module _ (m : FlowMasks) (pc : Masks) (opened : ℕ) (inner : Innermost) (place 
 -- ── a test and its two blocks ──
 
 module _ (m : FlowMasks) (pc : Masks) (opened : ℕ) (inner : Innermost) (place : ℕ) (r : Record) where
-  branches_variable : Passed m pc opened inner place r VariableTest → (inside : Masks) → inside ≡ with_variable r.b pc → Branches m pc opened inner place r (onVariable r.b) inside
+  branches_variable : Passed m pc opened inner place r VariableTest → (inside : Masks) → inside ≡ with_variable r.b pc → Branches m pc opened inner place r (on_variable r.b) inside
   branches_variable p inside e =
       let q = kind_found VariableTest r.letter inner p.is in
       let z = and_parts (eqb r.a 0) (eqb r.c 0 && eqb r.n 0) (sym (ap (rest_zero r) q) ∙ p.rest) in
       let v : r.b < m.variables = subst (Named m r) q p.named in
       let small : r.b < 64 = omega (arith, m.counts) in
       record {
-        opens = λ n i. record { letter = sym (letter m pc opened inner place r variableTests q) i; a = sym (eqb-true r.a 0 z.0) i; b = r.b; c = n; n = pos 0 };
+        opens = λ n i. record { letter = sym (letter m pc opened inner place r variable_tests q) i; a = sym (eqb-true r.a 0 z.0) i; b = r.b; c = n; n = pos 0 };
         under = masked_variable r.b pc.variables pc.conditions small ∙ ap context_of (sym e);
         declared = λ C sh blocks A. subst (Declared sh) (sym e) (declared_variable_lem sh pc r.b small (subst (λ n. ltb r.b n ≡ true) A.masks.variables (lt-ltb r.b m.variables v)) A.declared);
         goes = λ C sh blocks around A rs. p.goes C sh blocks around A rs ∙ ap (λ x. answer C sh (established (at place blocks (context_of pc) around) r x) rs) q;
       }
 
-  branches_condition : Passed m pc opened inner place r ConditionTest → (inside : Masks) → inside ≡ with_conditions ((1 * 2 ^ r.a) % 2 ^ 16) pc → Branches m pc opened inner place r (onCondition r.a) inside
+  branches_condition : Passed m pc opened inner place r ConditionTest → (inside : Masks) → inside ≡ with_conditions ((1 * 2 ^ r.a) % 2 ^ 16) pc → Branches m pc opened inner place r (on_condition r.a) inside
   branches_condition p inside e =
       let q = kind_found ConditionTest r.letter inner p.is in
       let z = and_parts (eqb r.b 0) (eqb r.c 0 && eqb r.n 0) (sym (ap (rest_zero r) q) ∙ p.rest) in
       let v : r.a < m.conditions = subst (Named m r) q p.named in
       let small : r.a < 16 = omega (arith, m.counts) in
       record {
-        opens = λ n i. record { letter = sym (letter m pc opened inner place r conditionTests q) i; a = r.a; b = sym (eqb-true r.b 0 z.0) i; c = n; n = pos 0 };
+        opens = λ n i. record { letter = sym (letter m pc opened inner place r condition_tests q) i; a = r.a; b = sym (eqb-true r.b 0 z.0) i; c = n; n = pos 0 };
         under = masked_condition r.a pc.variables pc.conditions small ∙ ap context_of (sym e);
         declared = λ C sh blocks A. subst (Declared sh) (sym e) (declared_condition_lem sh pc r.a small (subst (λ n. ltb r.a n ≡ true) A.masks.conditions (lt-ltb r.a m.conditions v)) A.declared);
         goes = λ C sh blocks around A rs. p.goes C sh blocks around A rs ∙ ap (λ x. answer C sh (established (at place blocks (context_of pc) around) r x) rs) q;
@@ -328,21 +328,21 @@ module _ (m : FlowMasks) (pc : Masks) (opened : ℕ) (inner : Innermost) (place 
 module _ (m : FlowMasks) (pc : Masks) (opened : ℕ) (inner : Innermost) (place : ℕ) (r : Record) where
   pub branches : (k : RecordKind) (inside : Masks) → inside ≡ inside_of k r pc → Passed m pc opened inner place r k → (k ≡ VariableTest) ⊎ (k ≡ ConditionTest) → (t : Test) × Branches m pc opened inner place r t inside
   branches k inside e h (inl q) =
-      (onVariable r.b, branches_variable m pc opened inner place r (subst (Passed m pc opened inner place r) q h) inside (e ∙ ap (λ x. inside_of x r pc) q))
+      (on_variable r.b, branches_variable m pc opened inner place r (subst (Passed m pc opened inner place r) q h) inside (e ∙ ap (λ x. inside_of x r pc) q))
   branches k inside e h (inr q) =
-      (onCondition r.a, branches_condition m pc opened inner place r (subst (Passed m pc opened inner place r) q h) inside (e ∙ ap (λ x. inside_of x r pc) q))
+      (on_condition r.a, branches_condition m pc opened inner place r (subst (Passed m pc opened inner place r) q h) inside (e ∙ ap (λ x. inside_of x r pc) q))
 
 branch_linked : (t : Test) (c d : Command) → linked (branch t c d) ≡ opening t (size c + 1) ∷ (linked c ++ (instruction 74 0 0 (size d + 1) ∷ (linked d ++ (instruction 75 0 0 0 ∷ []))))
-branch_linked (onVariable v) c d = refl
-branch_linked (onCondition a) c d = refl
+branch_linked (on_variable v) c d = refl
+branch_linked (on_condition a) c d = refl
 
 branch_placed : (t : Test) (c d : Command) → Placed c → Placed d → Placed (branch t c d)
-branch_placed (onVariable v) c d h k = (h, k)
-branch_placed (onCondition a) c d h k = (h, k)
+branch_placed (on_variable v) c d h k = (h, k)
+branch_placed (on_condition a) c d h k = (h, k)
 
 branch_size : (t : Test) (c d : Command) → size (branch t c d) ≡ size c + size d + 3
-branch_size (onVariable v) c d = refl
-branch_size (onCondition a) c d = refl
+branch_size (on_variable v) c d = refl
+branch_size (on_condition a) c d = refl
 
 module _ (m : FlowMasks) (pc : Masks) (opened : ℕ) (inner : Innermost) (place : ℕ) (r : Record) (rs : List Record) (t : Test) (inside : Masks) (T : Branches m pc opened inner place r t inside) where
   within : (C : Lattice) (sh : Sheet) (blocks : List Block) (b : Block) (i : Innermost) → innermost_of (b ∷ blocks) ≡ i → Alike C sh m pc opened inner blocks → Alike C sh m inside (opened + 1) i (b ∷ blocks)

@@ -10,7 +10,7 @@ use Rattle.policy.specs.Masks.{members}
 use Rattle.sheet.specs.Sheet.{Sheet, policy_of, permit_at}
 use Rattle.machine.specs.SoundSheet.{HasVariable, HasCondition, HasPermit}
 use Rattle.machine.specs.Typing.{Context, outermost, under_variable, under_condition, under_conditions, ContextFlowsTo}
-use Rattle.program.specs.Rules.{Test, onVariable, onCondition, tested, widest, each_within}
+use Rattle.program.specs.Rules.{Test, on_variable, on_condition, tested, widest, each_within}
 use Rattle.program.specs.Acceptance.{UsableSheet}
 use Rattle.program.proofs.Deciding.{flows_sound, flows_complete}
 
@@ -37,12 +37,12 @@ declared_conditions sh s pc f d = record {
 }
 
 abbrev pub HasTested : Sheet → Test → Type 0
-HasTested sh (onVariable v) = HasVariable sh v
-HasTested sh (onCondition c) = HasCondition sh c
+HasTested sh (on_variable v) = HasVariable sh v
+HasTested sh (on_condition c) = HasCondition sh c
 
 pub declared_tested : (sh : Sheet) (t : Test) (pc : Context) → HasTested sh t → Declared sh pc → Declared sh (tested t pc)
-declared_tested sh (onVariable v) pc h d = declared_variable_lem sh v pc h d
-declared_tested sh (onCondition c) pc h d = declared_condition_lem sh c pc h d
+declared_tested sh (on_variable v) pc h d = declared_variable_lem sh v pc h d
+declared_tested sh (on_condition c) pc h d = declared_condition_lem sh c pc h d
 
 -- one context in another, over the numbers that there may be
 pub record Within (pc wide : Context) : Type 0 where

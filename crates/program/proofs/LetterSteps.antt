@@ -7,7 +7,7 @@ use Rattle.program.specs.declared.innermost.Innermost.TheVariants.{Outermost, Fi
 use Rattle.program.specs.declared.innermost.RecordKind.{RecordKind}
 use Rattle.program.specs.declared.innermost.RecordKind.TheVariants.{Set, Sign as OneSign, Release, Raise, VariableTest, ConditionTest, Loop as While, Mark, Misplaced}
 use Rattle.program.specs.Written.{letter_of}
-use Rattle.program.specs.Rules.{Block, then_block, else_block, loop_block, Kind, kind, sets, signs, releases, raises, variableTests, conditionTests, loops, elses, ends, others, in_first, in_last, may_stand}
+use Rattle.program.specs.Rules.{Block, then_block, else_block, loop_block, Kind, kind, sets, signs, releases, raises, variable_tests, condition_tests, loops, elses, ends, others, in_first, in_last, may_stand}
 use Rattle.program.specs.Letters.{innermost_of, first_mark, last_mark, kind_at}
 
 -- ── the letter of a kind ──
@@ -17,8 +17,8 @@ Letter sets l = l ≡ 83
 Letter (signs s) l = l ≡ letter_of s
 Letter releases l = l ≡ 68
 Letter raises l = l ≡ 85
-Letter variableTests l = l ≡ 73
-Letter conditionTests l = l ≡ 81
+Letter variable_tests l = l ≡ 73
+Letter condition_tests l = l ≡ 81
 Letter loops l = l ≡ 87
 Letter elses l = l ≡ 74
 Letter ends l = l ≡ 75
@@ -27,7 +27,7 @@ Letter others l = Unit {0}
 pub letter_of_lem : (l : ℕ) → Letter (kind l) l
 letter_of_lem l =
     pick 83 sets _ (λ e. e) (pick 43 (signs plus) _ (λ e. e) (pick 45 (signs minus) _ (λ e. e) (pick 42 (signs times) _ (λ e. e) (pick 60 (signs less) _ (λ e. e) (pick 61 (signs equal) _ (λ e. e)
-    (pick 68 releases _ (λ e. e) (pick 85 raises _ (λ e. e) (pick 73 variableTests _ (λ e. e) (pick 81 conditionTests _ (λ e. e) (pick 87 loops _ (λ e. e) (pick 74 elses _ (λ e. e) (pick 75 ends _ (λ e. e) tt))))))))))))
+    (pick 68 releases _ (λ e. e) (pick 85 raises _ (λ e. e) (pick 73 variable_tests _ (λ e. e) (pick 81 condition_tests _ (λ e. e) (pick 87 loops _ (λ e. e) (pick 74 elses _ (λ e. e) (pick 75 ends _ (λ e. e) tt))))))))))))
   where
     choose : (b : Bool) (k x : Kind) → (b ≡ true → Letter k l) → Letter x l → Letter (cond b k x) l
     choose true k x f g = f refl
@@ -43,8 +43,8 @@ kinds i sets = Set
 kinds i (signs s) = OneSign
 kinds i releases = Release
 kinds i raises = Raise
-kinds i variableTests = VariableTest
-kinds i conditionTests = ConditionTest
+kinds i variable_tests = VariableTest
+kinds i condition_tests = ConditionTest
 kinds i loops = While
 kinds i elses = first_mark i
 kinds i ends = last_mark i
@@ -52,7 +52,7 @@ kinds i others = Misplaced
 
 kind_at_lem : (l : ℕ) (i : Innermost) → kinds i (kind l) ≡ kind_at l i
 kind_at_lem l i =
-    or 83 sets _ _ (or 43 (signs plus) _ _ (or 45 (signs minus) _ _ (or 42 (signs times) _ _ (or 60 (signs less) _ _ (or 61 (signs equal) _ _ (or 68 releases _ _ (or 85 raises _ _ (or 73 variableTests _ _ (or 81 conditionTests _ _ (or 87 loops _ _ (or 74 elses _ _ (or 75 ends _ _ refl))))))))))))
+    or 83 sets _ _ (or 43 (signs plus) _ _ (or 45 (signs minus) _ _ (or 42 (signs times) _ _ (or 60 (signs less) _ _ (or 61 (signs equal) _ _ (or 68 releases _ _ (or 85 raises _ _ (or 73 variable_tests _ _ (or 81 condition_tests _ _ (or 87 loops _ _ (or 74 elses _ _ (or 75 ends _ _ refl))))))))))))
   where
     through : (b : Bool) (k x : Kind) (z : RecordKind) → kinds i x ≡ z → kinds i (cond b k x) ≡ cond b (kinds i k) z
     through true k x z e = refl
@@ -73,8 +73,8 @@ Of Set i k = k ≡ sets
 Of OneSign i k = (s : Sign) × (k ≡ signs s)
 Of Release i k = k ≡ releases
 Of Raise i k = k ≡ raises
-Of VariableTest i k = k ≡ variableTests
-Of ConditionTest i k = k ≡ conditionTests
+Of VariableTest i k = k ≡ variable_tests
+Of ConditionTest i k = k ≡ condition_tests
 Of While i k = k ≡ loops
 Of Mark i k = MarkOf i k
 Of Misplaced i k = (bs : List Block) → innermost_of bs ≡ i → may_stand bs k ≡ false
@@ -108,8 +108,8 @@ of i sets = refl
 of i (signs s) = (s, refl)
 of i releases = refl
 of i raises = refl
-of i variableTests = refl
-of i conditionTests = refl
+of i variable_tests = refl
+of i condition_tests = refl
 of i loops = refl
 of Outermost elses = λ bs e. first_in_lem bs ∙ ap first_in e
 of First elses = refl

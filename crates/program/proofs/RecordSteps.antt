@@ -24,7 +24,7 @@ use Rattle.program.specs.declared.innermost.Innermost.{Innermost}
 use Rattle.program.specs.declared.innermost.Innermost.TheVariants.{Outermost, First, Second, Loop}
 use Rattle.program.specs.declared.innermost.RecordKind.{RecordKind}
 use Rattle.program.specs.declared.innermost.RecordKind.TheVariants.{Set, Sign as OneSign, Release, Raise, VariableTest, ConditionTest, Loop as While, Mark, Misplaced}
-use Rattle.program.specs.Rules.{Block, at, Kind, kind, sets, signs, releases, raises, variableTests, conditionTests, loops, elses, ends, may_stand, rest_zero, widest, each_within, established, answer}
+use Rattle.program.specs.Rules.{Block, at, Kind, kind, sets, signs, releases, raises, variable_tests, condition_tests, loops, elses, ends, may_stand, rest_zero, widest, each_within, established, answer}
 use Rattle.program.specs.Deciding.{flows}
 use Rattle.program.specs.Checks.{masked, set_fields, three_fields, raise_fields, variable_test_fields, condition_test_fields, mark_fields}
 use Rattle.program.specs.Contexts.{with_variable, with_conditions}
@@ -249,7 +249,7 @@ module _ (m : FlowMasks) (pc : Masks) (opened : ℕ) (inner : Innermost) (place 
         names = λ p. ltb-true r.b m.variables p.1.0;
       }
 
-  pub testing_variable : VariableTest ≡ kind_at r.letter inner → Fielded VariableTest variableTests (variable_test_fields r place m.variables opened)
+  pub testing_variable : VariableTest ≡ kind_at r.letter inner → Fielded VariableTest variable_tests (variable_test_fields r place m.variables opened)
   testing_variable h =
       let q = kind_found VariableTest r.letter inner h in
       record {
@@ -257,13 +257,13 @@ module _ (m : FlowMasks) (pc : Masks) (opened : ℕ) (inner : Innermost) (place 
         same = q;
         stands = refl;
         asks = λ C sh blocks commands A rs.
-            steps.variable_test_step C sh place blocks (context_of pc) commands r rs (letter variableTests q)
-            ∙ (λ i. first (variable_test_fields r place (sym A.masks.variables i) (A.depth i)) (answer C sh (established (at place blocks (context_of pc) commands) r variableTests) rs));
+            steps.variable_test_step C sh place blocks (context_of pc) commands r rs (letter variable_tests q)
+            ∙ (λ i. first (variable_test_fields r place (sym A.masks.variables i) (A.depth i)) (answer C sh (established (at place blocks (context_of pc) commands) r variable_tests) rs));
         zero = λ p. p.0;
         names = λ p. ltb-true r.b m.variables p.1.0;
       }
 
-  pub testing_condition : ConditionTest ≡ kind_at r.letter inner → Fielded ConditionTest conditionTests (condition_test_fields r place m.conditions opened)
+  pub testing_condition : ConditionTest ≡ kind_at r.letter inner → Fielded ConditionTest condition_tests (condition_test_fields r place m.conditions opened)
   testing_condition h =
       let q = kind_found ConditionTest r.letter inner h in
       record {
@@ -271,8 +271,8 @@ module _ (m : FlowMasks) (pc : Masks) (opened : ℕ) (inner : Innermost) (place 
         same = q;
         stands = refl;
         asks = λ C sh blocks commands A rs.
-            steps.condition_test_step C sh place blocks (context_of pc) commands r rs (letter conditionTests q)
-            ∙ (λ i. first (condition_test_fields r place (sym A.masks.conditions i) (A.depth i)) (answer C sh (established (at place blocks (context_of pc) commands) r conditionTests) rs));
+            steps.condition_test_step C sh place blocks (context_of pc) commands r rs (letter condition_tests q)
+            ∙ (λ i. first (condition_test_fields r place (sym A.masks.conditions i) (A.depth i)) (answer C sh (established (at place blocks (context_of pc) commands) r condition_tests) rs));
         zero = λ p. p.0;
         names = λ p. ltb-true r.a m.conditions p.1.0;
       }

@@ -12,7 +12,7 @@ use Rattle.machine.specs.Command.{Sign, plus, minus, times, less, equal, Command
 use Rattle.machine.specs.Typing.{Context, under_variable, under_condition, under_conditions}
 use Rattle.program.specs.Deciding.{flows}
 use Rattle.program.specs.Written.{letter_of}
-use Rattle.program.specs.Rules.{Test, onVariable, onCondition, tested, branch, Block, then_block, else_block, loop_block, State, at, Kind, kind, sets, signs, releases, raises, variableTests, conditionTests, loops, elses, ends, others, may_stand, none, widest, each_within, rules, established, answer}
+use Rattle.program.specs.Rules.{Test, on_variable, on_condition, tested, branch, Block, then_block, else_block, loop_block, State, at, Kind, kind, sets, signs, releases, raises, variable_tests, condition_tests, loops, elses, ends, others, may_stand, none, widest, each_within, rules, established, answer}
 use Rattle.program.specs.Checks.{set_fields, three_fields, raise_fields, variable_test_fields, condition_test_fields, mark_fields}
 
 -- ── which kind of record a letter opens ──
@@ -33,10 +33,10 @@ kind_release l e = rw e refl
 pub kind_raise : (l : ℕ) → l ≡ 85 → kind l ≡ raises
 kind_raise l e = rw e refl
 
-pub kind_variable_test : (l : ℕ) → l ≡ 73 → kind l ≡ variableTests
+pub kind_variable_test : (l : ℕ) → l ≡ 73 → kind l ≡ variable_tests
 kind_variable_test l e = rw e refl
 
-pub kind_condition_test : (l : ℕ) → l ≡ 81 → kind l ≡ conditionTests
+pub kind_condition_test : (l : ℕ) → l ≡ 81 → kind l ≡ condition_tests
 kind_condition_test l e = rw e refl
 
 pub kind_loop : (l : ℕ) → l ≡ 87 → kind l ≡ loops
@@ -109,13 +109,13 @@ module _ (C : Lattice) (sh : Sheet) (place : ℕ) (blocks : List Block) (pc : Co
 
     pub variable_test_step : r.letter ≡ 73 → answer C sh s (r ∷ rs)
         ≡ first (variable_test_fields r place (length sh.variables) (length blocks))
-        (answer C sh (at (place + 1) (then_block (onVariable r.b) pc commands ∷ blocks) (under_variable r.b pc) (λ rest. rest)) rs)
-    variable_test_step e = step variableTests (kind_variable_test r.letter e)
+        (answer C sh (at (place + 1) (then_block (on_variable r.b) pc commands ∷ blocks) (under_variable r.b pc) (λ rest. rest)) rs)
+    variable_test_step e = step variable_tests (kind_variable_test r.letter e)
 
     pub condition_test_step : r.letter ≡ 81 → answer C sh s (r ∷ rs)
         ≡ first (condition_test_fields r place (length sh.conditions) (length blocks))
-        (answer C sh (at (place + 1) (then_block (onCondition r.a) pc commands ∷ blocks) (under_condition r.a pc) (λ rest. rest)) rs)
-    condition_test_step e = step conditionTests (kind_condition_test r.letter e)
+        (answer C sh (at (place + 1) (then_block (on_condition r.a) pc commands ∷ blocks) (under_condition r.a pc) (λ rest. rest)) rs)
+    condition_test_step e = step condition_tests (kind_condition_test r.letter e)
 
     pub loop_step : r.letter ≡ 87 → answer C sh s (r ∷ rs)
         ≡ first (variable_test_fields r place (length sh.variables) (length blocks))

@@ -5,7 +5,7 @@ use Rattle.records.specs.declared.Record.{Record}
 use Rattle.records.specs.Rules.{Rule, rule}
 use Rattle.machine.specs.Typing.{Context}
 use Rattle.policy.specs.Masks.{members}
-use Rattle.program.specs.Rules.{rest_zero, sets, releases, raises, variableTests, conditionTests, ends}
+use Rattle.program.specs.Rules.{rest_zero, sets, releases, raises, variable_tests, condition_tests, ends}
 
 abbrev pub set_fields : Record → ℕ → ℕ → List Rule
 set_fields r place variables = rule 13 place 0 (rest_zero r sets) ∷ rule 14 place r.a (nat_lt r.a variables) ∷ []
@@ -20,10 +20,10 @@ raise_fields r place conditions = rule 13 place 0 (rest_zero r raises) ∷ rule 
 
 -- I and W
 abbrev pub variable_test_fields : Record → ℕ → ℕ → ℕ → List Rule
-variable_test_fields r place variables opened = rule 13 place 0 (rest_zero r variableTests) ∷ rule 14 place r.b (nat_lt r.b variables) ∷ rule 15 place 0 (nat_le (opened + 1) 8) ∷ []
+variable_test_fields r place variables opened = rule 13 place 0 (rest_zero r variable_tests) ∷ rule 14 place r.b (nat_lt r.b variables) ∷ rule 15 place 0 (nat_le (opened + 1) 8) ∷ []
 
 abbrev pub condition_test_fields : Record → ℕ → ℕ → ℕ → List Rule
-condition_test_fields r place conditions opened = rule 13 place 0 (rest_zero r conditionTests) ∷ rule 14 place r.a (nat_lt r.a conditions) ∷ rule 15 place 0 (nat_le (opened + 1) 8) ∷ []
+condition_test_fields r place conditions opened = rule 13 place 0 (rest_zero r condition_tests) ∷ rule 14 place r.a (nat_lt r.a conditions) ∷ rule 15 place 0 (nat_le (opened + 1) 8) ∷ []
 
 -- J and K
 abbrev pub mark_fields : Record → ℕ → List Rule

@@ -18,7 +18,7 @@ use Rattle.program.specs.declared.innermost.RecordKind.{RecordKind}
 use Rattle.program.specs.declared.innermost.RecordKind.TheVariants.{Mark, Misplaced}
 use Rattle.program.specs.declared.kept.Instruction.{Instruction}
 use Rattle.program.specs.Kept.{blank, instruction, linked, Placed}
-use Rattle.program.specs.Rules.{Test, onVariable, onCondition, tested, Block, then_block, at, Kind, kind, sets, signs, releases, raises, variableTests, conditionTests, loops, elses, ends, others, rest_zero, established, answer}
+use Rattle.program.specs.Rules.{Test, on_variable, on_condition, tested, Block, then_block, at, Kind, kind, sets, signs, releases, raises, variable_tests, condition_tests, loops, elses, ends, others, rest_zero, established, answer}
 use Rattle.program.specs.Checks.{masked}
 use Rattle.program.specs.Letters.{innermost_of, kind_at}
 use Rattle.program.specs.Acceptance.{UsableSheet}
@@ -51,8 +51,8 @@ Named m r sets = r.a < m.variables
 Named m r (signs s) = (r.a < m.variables) × (r.b < m.variables) × (r.c < m.variables)
 Named m r releases = (r.a < m.variables) × (r.b < m.variables) × (r.c < m.permits)
 Named m r raises = r.a < m.conditions
-Named m r variableTests = r.b < m.variables
-Named m r conditionTests = r.a < m.conditions
+Named m r variable_tests = r.b < m.variables
+Named m r condition_tests = r.a < m.conditions
 Named m r loops = r.b < m.variables
 Named m r elses = Unit {0}
 Named m r ends = Unit {0}
@@ -69,8 +69,8 @@ pub record Passed (m : FlowMasks) (pc : Masks) (opened : ℕ) (inner : Innermost
 
 -- the instruction of a test with the way to its J
 abbrev pub opening : Test → ℕ → Instruction
-opening (onVariable v) n = instruction 73 0 v n
-opening (onCondition c) n = instruction 81 c 0 n
+opening (on_variable v) n = instruction 73 0 v n
+opening (on_condition c) n = instruction 81 c 0 n
 
 -- the record opens the two blocks of this test, which stand under that context
 pub record Branches (m : FlowMasks) (pc : Masks) (opened : ℕ) (inner : Innermost) (place : ℕ) (r : Record) (t : Test) (inside : Masks) : Type 0 where

@@ -17,15 +17,15 @@ use Rattle.program.specs.Deciding.{flows}
 
 -- what I or Q tests
 pub data Test : Type 0 where
-  onVariable onCondition : ℕ → Test
+  on_variable on_condition : ℕ → Test
 
 abbrev pub tested : Test → Context → Context
-tested (onVariable v) pc = under_variable v pc
-tested (onCondition c) pc = under_condition c pc
+tested (on_variable v) pc = under_variable v pc
+tested (on_condition c) pc = under_condition c pc
 
 abbrev pub branch : Test → Command → Command → Command
-branch (onVariable v) c d = if_variable v c d
-branch (onCondition a) c d = if_condition a c d
+branch (on_variable v) c d = if_variable v c d
+branch (on_condition a) c d = if_condition a c d
 
 -- An open block, with the context around it and the commands before it, once those after it are known: the first block of a test,
 -- the second (with the first), or a loop's.
@@ -50,7 +50,7 @@ at place blocks pc commands = record { place = place; blocks = blocks; context =
 -- ── the letters S, + - * < =, D, U, I, Q, W, J, K ──
 
 pub data Kind : Type 0 where
-  sets releases raises variableTests conditionTests loops elses ends others : Kind
+  sets releases raises variable_tests condition_tests loops elses ends others : Kind
   signs : Sign → Kind
 
 abbrev pub kind : ℕ → Kind
@@ -63,8 +63,8 @@ kind letter =
     (cond (letter == 61) (signs equal)
     (cond (letter == 68) releases
     (cond (letter == 85) raises
-    (cond (letter == 73) variableTests
-    (cond (letter == 81) conditionTests
+    (cond (letter == 73) variable_tests
+    (cond (letter == 81) condition_tests
     (cond (letter == 87) loops
     (cond (letter == 74) elses
     (cond (letter == 75) ends others))))))))))))
@@ -92,8 +92,8 @@ may_stand bs sets = true
 may_stand bs (signs s) = true
 may_stand bs releases = true
 may_stand bs raises = true
-may_stand bs variableTests = true
-may_stand bs conditionTests = true
+may_stand bs variable_tests = true
+may_stand bs condition_tests = true
 may_stand bs loops = true
 
 -- 13: fields that are not named are zero
@@ -102,8 +102,8 @@ rest_zero r sets = r.b == 0 && r.c == 0
 rest_zero r (signs s) = r.n == 0
 rest_zero r releases = r.n == 0
 rest_zero r raises = r.b == 0 && (r.c == 0 && r.n == 0)
-rest_zero r variableTests = r.a == 0 && (r.c == 0 && r.n == 0)
-rest_zero r conditionTests = r.b == 0 && (r.c == 0 && r.n == 0)
+rest_zero r variable_tests = r.a == 0 && (r.c == 0 && r.n == 0)
+rest_zero r condition_tests = r.b == 0 && (r.c == 0 && r.n == 0)
 rest_zero r loops = r.a == 0 && (r.c == 0 && r.n == 0)
 rest_zero r elses = r.a == 0 && (r.b == 0 && (r.c == 0 && r.n == 0))
 rest_zero r ends = r.a == 0 && (r.b == 0 && (r.c == 0 && r.n == 0))
@@ -117,8 +117,8 @@ declared sh place r (signs s) =
 declared sh place r releases =
     rule 14 place r.a (declared_variable sh r.a) ∷ rule 14 place r.b (declared_variable sh r.b) ∷ rule 14 place r.c (declared_permit sh r.c) ∷ []
 declared sh place r raises = rule 14 place r.a (declared_condition sh r.a) ∷ []
-declared sh place r variableTests = rule 14 place r.b (declared_variable sh r.b) ∷ []
-declared sh place r conditionTests = rule 14 place r.a (declared_condition sh r.a) ∷ []
+declared sh place r variable_tests = rule 14 place r.b (declared_variable sh r.b) ∷ []
+declared sh place r condition_tests = rule 14 place r.a (declared_condition sh r.a) ∷ []
 declared sh place r loops = rule 14 place r.b (declared_variable sh r.b) ∷ []
 declared sh place r elses = []
 declared sh place r ends = []
@@ -126,8 +126,8 @@ declared sh place r others = []
 
 -- 15: at most 8 blocks are open, with the one that opens here
 abbrev pub shallow : List Block → Kind → Bool
-shallow bs variableTests = nat_le (length bs + 1) 8
-shallow bs conditionTests = nat_le (length bs + 1) 8
+shallow bs variable_tests = nat_le (length bs + 1) 8
+shallow bs condition_tests = nat_le (length bs + 1) 8
 shallow bs loops = nat_le (length bs + 1) 8
 shallow bs sets = true
 shallow bs (signs s) = true
@@ -155,8 +155,8 @@ reaching C sh place pc r releases =
     each_within 16 place (under_conditions (members (permit_at sh r.c).conditions) pc) (widest C sh (policy_of sh r.a))
     ++ rule 16 place (512 + r.c) (flows C (permit_at sh r.c).to (policy_of sh r.a)) ∷ []
 reaching C sh place pc r raises = each_within 16 place pc (widest C sh (leaf (level_of sh r.a)))
-reaching C sh place pc r variableTests = []
-reaching C sh place pc r conditionTests = []
+reaching C sh place pc r variable_tests = []
+reaching C sh place pc r condition_tests = []
 reaching C sh place pc r loops = []
 reaching C sh place pc r elses = []
 reaching C sh place pc r ends = []
@@ -169,8 +169,8 @@ limited C sh place pc r releases = rule 18 place 0 (flows C (policy_of sh r.b) (
 limited C sh place pc r sets = []
 limited C sh place pc r (signs s) = []
 limited C sh place pc r raises = []
-limited C sh place pc r variableTests = []
-limited C sh place pc r conditionTests = []
+limited C sh place pc r variable_tests = []
+limited C sh place pc r condition_tests = []
 limited C sh place pc r elses = []
 limited C sh place pc r ends = []
 limited C sh place pc r others = []
@@ -219,8 +219,8 @@ established s r sets = after s (set r.a (to_z w32 r.n))
 established s r (signs sign) = after s (combine sign r.a r.b r.c)
 established s r releases = after s (release r.a r.b r.c)
 established s r raises = after s (raise r.a)
-established s r variableTests = testing s (onVariable r.b)
-established s r conditionTests = testing s (onCondition r.a)
+established s r variable_tests = testing s (on_variable r.b)
+established s r condition_tests = testing s (on_condition r.a)
 established s r loops = looping s r.b
 established s r elses = turned s s.blocks
 established s r ends = closed s s.blocks

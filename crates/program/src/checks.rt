@@ -1,7 +1,7 @@
 // Every rule that is asked of one record.
 ghost use Rattle.std.specs.Prelude.{◌≡◌, ℕ, ◌+◌, ◌<◌, List, [], ◌∷◌, MatchResult};
 ghost use Rattle.records.specs.declared.Record.{Record as AnyRecord};
-ghost use Rattle.records.specs.Rules.{Reading, refused, rule as asked, first as firstFailing};
+ghost use Rattle.records.specs.Rules.{Reading, refused, rule as asked, first as first_failing};
 ghost use Rattle.policy.specs.Masks.{bit};
 ghost use Rattle.machine.specs.Command.{Command};
 ghost use Rattle.program.specs.Checks.{masked};
@@ -29,10 +29,10 @@ fn check_release(
 ) -> Result<(), Refusal>
     requires { (first.a < 64) × (first.b < 64) }
     ensures { MatchResult result
-        (λ _. (a : Reading Command) → firstFailing (each_within 16 place (context_of (with_conditions permit.conditions context)) (masked inflow.variables inflow.conditions))
-        (firstFailing (asked 16 place (512 + first.c) (bit first.a permit.targets) ∷ asked 18 place 0 (bit first.b permit.sources) ∷ []) a) ≡ a)
-        (λ e. (a : Reading Command) → firstFailing (each_within 16 place (context_of (with_conditions permit.conditions context)) (masked inflow.variables inflow.conditions))
-        (firstFailing (asked 16 place (512 + first.c) (bit first.a permit.targets) ∷ asked 18 place 0 (bit first.b permit.sources) ∷ []) a) ≡ refused e) }
+        (λ _. (a : Reading Command) → first_failing (each_within 16 place (context_of (with_conditions permit.conditions context)) (masked inflow.variables inflow.conditions))
+        (first_failing (asked 16 place (512 + first.c) (bit first.a permit.targets) ∷ asked 18 place 0 (bit first.b permit.sources) ∷ []) a) ≡ a)
+        (λ e. (a : Reading Command) → first_failing (each_within 16 place (context_of (with_conditions permit.conditions context)) (masked inflow.variables inflow.conditions))
+        (first_failing (asked 16 place (512 + first.c) (bit first.a permit.targets) ∷ asked 18 place 0 (bit first.b permit.sources) ∷ []) a) ≡ refused e) }
 {
     check_reach(
         rule::REACHING,

@@ -1,7 +1,7 @@
 // What reaches a target, against what may.
 ghost use Rattle.std.specs.Prelude.{◌≡◌, ℕ, ◌<◌, true, false, MatchResult};
 ghost use Rattle.std.specs.Option as options;
-ghost use Rattle.records.specs.Rules.{Reading, refused, first as firstFailing};
+ghost use Rattle.records.specs.Rules.{Reading, refused, first as first_failing};
 ghost use Rattle.machine.specs.Command.{Command};
 ghost use Rattle.program.specs.Checks.{masked};
 ghost use Rattle.program.specs.Rules.{each_within};
@@ -32,8 +32,8 @@ pub(crate) fn check_reach(
     inflow: Inflow,
 ) -> Result<(), Refusal>
     ensures { MatchResult result
-        (λ _. (a : Reading Command) → firstFailing (each_within number place (masked context.variables context.conditions) (masked inflow.variables inflow.conditions)) a ≡ a)
-        (λ e. (a : Reading Command) → firstFailing (each_within number place (masked context.variables context.conditions) (masked inflow.variables inflow.conditions)) a ≡ refused e) }
+        (λ _. (a : Reading Command) → first_failing (each_within number place (masked context.variables context.conditions) (masked inflow.variables inflow.conditions)) a ≡ a)
+        (λ e. (a : Reading Command) → first_failing (each_within number place (masked context.variables context.conditions) (masked inflow.variables inflow.conditions)) a ≡ refused e) }
 {
     if let Some(variable) = first_misfit(context.variables, inflow.variables) {
         return Err(Refusal::new(number, place, variable as u32));

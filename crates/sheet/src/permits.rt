@@ -2,7 +2,7 @@
 ghost use Rattle.std.specs.Prelude.{◌≡◌, ℕ, ◌+◌, ◌*◌, ◌<◌, ◌≤◌, not, ◌||◌, length, IfOk, MatchResult, nat_lt};
 ghost use Rattle.lattice.specs.Lattice.{Lattice as AnyLattice};
 ghost use Rattle.records.specs.Records.{records};
-ghost use Rattle.records.specs.Rules.{Reading, refused, first as firstFailing, judged};
+ghost use Rattle.records.specs.Rules.{Reading, refused, first as first_failing, judged};
 ghost use Rattle.policy.specs.Masks.{bit};
 ghost use Rattle.sheet.specs.Sheet.{Sheet};
 ghost use Rattle.sheet.specs.Checks.{permit_rules, mask_rules};
@@ -39,8 +39,8 @@ fn is_declared(mask: u32, condition: usize, conditions: usize) -> bool
 
 fn check_mask(mask: u32, conditions: usize, place: usize) -> Result<(), Refusal>
     ensures { MatchResult result
-        (λ _. (a : Reading Sheet) → firstFailing (mask_rules conditions mask place) a ≡ a)
-        (λ e. (a : Reading Sheet) → firstFailing (mask_rules conditions mask place) a ≡ refused e) }
+        (λ _. (a : Reading Sheet) → first_failing (mask_rules conditions mask place) a ≡ a)
+        (λ e. (a : Reading Sheet) → first_failing (mask_rules conditions mask place) a ≡ refused e) }
 {
     for condition in 0..32usize {
         if !is_declared(mask, condition, conditions) {
