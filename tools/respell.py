@@ -23,7 +23,9 @@ LEMMAS = {
     "value-at": "value_at_lem", "getD-dense": "get_or_dense", "getD-joined": "get_or_joined", "getD-sparse": "get_or_sparse",
     "getD-values": "get_or_values",
 }
-# the same for names that port.py had brought to snake case, by file
+# fields, which stand apart from functions and need no such name
+FIELDS = {"no-permit": ("no_permit", ("crates/program/specs/Examples.antt", "crates/program/proofs/Examples.antt"))}
+# the same as above for names that port.py had brought to snake case, by file
 IN_FILES = {
     "has_first": ("has_first_lem", "crates/policy/proofs/Masks.antt"),
     "is_none": ("none_without", "crates/siteunit/proofs/"),
@@ -85,6 +87,9 @@ def main():
         new = text
         for old, (to, where) in IN_FILES.items():
             if file.startswith(where):
+                new = re.sub(START + re.escape(old) + END, to, new)
+        for old, (to, where) in FIELDS.items():
+            if file in where:
                 new = re.sub(START + re.escape(old) + END, to, new)
         if file in documents:
             new = quoted.sub(lambda m: token.sub(lambda n: renamed[n.group(1)], m.group(0)), new)

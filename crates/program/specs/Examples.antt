@@ -66,7 +66,7 @@ pub record ProgramExamples : Type 0 where
   pub left_open : read (line 73 0 3 0 0 ∷ J ∷ []) ≡ refused_by 12 2 0
   pub not_zero : read (line 83 9 1 0 0 ∷ []) ≡ refused_by 13 0 0
   pub no_variable : read (line 60 1 5 6 0 ∷ []) ≡ refused_by 14 0 5
-  pub no_permit_lem : read (line 68 1 2 3 0 ∷ []) ≡ refused_by 14 0 3
+  pub no_permit : read (line 68 1 2 3 0 ∷ []) ≡ refused_by 14 0 3
   pub no_condition : read (line 81 2 0 0 0 ∷ []) ≡ refused_by 14 0 2
   pub too_deep : read (line 73 0 3 0 0 ∷ line 73 0 3 0 0 ∷ line 73 0 3 0 0 ∷ line 73 0 3 0 0 ∷ line 73 0 3 0 0 ∷ line 73 0 3 0 0 ∷ line 73 0 3 0 0 ∷ line 73 0 3 0 0 ∷ line 73 0 3 0 0 ∷ []) ≡ refused_by 15 8 0
   -- the lowest variable that does not flow, of those read and those of the context
