@@ -102,11 +102,11 @@ some_bit =
       | inr e ↦ let ne : n % 2 ≡ 1 → ⊥ = eqb-false _ _ e in let r = ih (λ z. h (omega (arith, two n))) in (suc r.0, ap (λ (m : ℕ). eqb (m % 2) 1) (sym (shr-shr n 1 r.0 ∙ ap (λ (m : ℕ). n / 2 ^ m) (one-add r.0))) ∙ r.1)
     ])
 
--- a condition that sixteen bits have no room for
-pub no_bit : (c : ℕ) → 16 ≤ c → (1 * 2 ^ c) % 2 ^ 16 ≡ 0
-no_bit c h =
-    let e : c ≡ (c - 16) + 16 = omega arith in
-    ap (λ (n : ℕ). (1 * 2 ^ n) % 2 ^ 16) e ∙ ap (λ (n : ℕ). n % 2 ^ 16) (one (2 ^ (c - 16 + 16)) ∙ pow-add 2 (c - 16) 16) ∙ mul-mod_left (2 ^ (c - 16)) (2 ^ 16)
+-- a number that so many bits have no room for
+pub no_bit : (w k : ℕ) → w ≤ k → (1 * 2 ^ k) % 2 ^ w ≡ 0
+no_bit w k h =
+    let e : k ≡ (k - w) + w = omega arith in
+    ap (λ (n : ℕ). (1 * 2 ^ n) % 2 ^ w) e ∙ ap (λ (n : ℕ). n % 2 ^ w) (one (2 ^ (k - w + w)) ∙ pow-add 2 (k - w) w) ∙ mul-mod_left (2 ^ (k - w)) (2 ^ w)
   where
     one : (n : ℕ) → 1 * n ≡ n
     one n = omega arith

@@ -1,6 +1,8 @@
-// Erasure policies as rows of guarded levels.
+// Erasure policies as rows of guarded levels, and sets of conditions as masks.
 #![tactic(auto)]
 
+mod mask;
 mod row;
 
-pub use row::{GuardedLevel, Row, condition_bit};
+pub use mask::{condition_bit, has, mask_of};
+pub use row::{GuardedLevel, Row};

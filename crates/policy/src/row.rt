@@ -1,8 +1,9 @@
 // A policy's row: its leaves with their guards, and what wipes it.
-ghost use Rattle.std.specs.Prelude.{◌≡◌, ◌*◌, ◌%◌, ◌^◌, slice_index_or};
+ghost use Rattle.std.specs.Prelude.{◌≡◌, slice_index_or};
 ghost use Rattle.policy.specs.Rows.{no_leaf, blank, levels_in, with_level, with_node};
 ghost use Rattle.policy.specs.RowLevels.{LevelOf, FlowDecided};
 
+use crate::mask::condition_bit;
 use lattice::Lattice;
 
 /// A leaf of a policy: its level, and as a mask the conditions on whose later side it lies.
@@ -18,13 +19,6 @@ pub struct Row {
     pub levels: [GuardedLevel; 8],
     pub count: usize,
     pub wipers: u16,
-}
-
-/// The mask of one condition; of one that no mask has room for, the empty mask.
-pub fn condition_bit(condition: u8) -> u16
-    ensures { result ≡ (1 * 2 ^ condition) % 2 ^ 16 }
-{
-    if condition < 16 { 1 << condition } else { 0 }
 }
 
 impl Row {

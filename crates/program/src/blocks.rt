@@ -13,7 +13,7 @@ use crate::innermost::{Innermost, RecordKind};
 use crate::kept::Instruction;
 use flow::FlowMasks;
 use policy::condition_bit;
-use records::{Record, Refusal, next_record, rule};
+use records::{Record, Refusal, Rule, next_record};
 
 // Checks the commands of a block in front of `bytes`, up to its end, under the context inside it. Answers the place of the end and
 // the bytes after it.
@@ -61,7 +61,7 @@ pub(crate) fn check_block<'a>(
     }
     match innermost {
         Innermost::Outermost => Ok((at, left)),
-        _ => Err(Refusal::new(rule::PROGRAM_LETTER, at, 0)),
+        _ => Err(Rule::ProgramLetter.at(at, 0)),
     }
 }
 

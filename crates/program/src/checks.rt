@@ -17,7 +17,7 @@ use crate::innermost::{Innermost, RecordKind};
 use crate::letters::kind_at;
 use crate::reach::check_reach;
 use flow::{FlowMasks, Inflow, PermitFlow};
-use records::{Record, Refusal, rule};
+use records::{Record, Refusal, Rule};
 
 // What a release reaches: its target under the permit's conditions too, and by the permit; and its source.
 fn check_release(
@@ -35,16 +35,16 @@ fn check_release(
         (first_failing (asked 16 place (512 + first.c) (bit first.a permit.targets) ∷ asked 18 place 0 (bit first.b permit.sources) ∷ []) a) ≡ refused e) }
 {
     check_reach(
-        rule::REACHING,
+        Rule::Reaching,
         place,
         context.with_conditions(permit.conditions),
         inflow,
     )?;
     if (permit.targets >> first.a) & 1 != 1 {
-        return Err(Refusal::new(rule::REACHING, place, 512 + first.c as u32));
+        return Err(Rule::Reaching.at(place, 512 + first.c as u32));
     }
     if (permit.sources >> first.b) & 1 != 1 {
-        return Err(Refusal::new(rule::RELEASED, place, 0));
+        return Err(Rule::Released.at(place, 0));
     }
     Ok(())
 }
@@ -68,13 +68,13 @@ pub(crate) fn check_record(
         RecordKind::Set => {
             let target = check_set(first, place, masks.variables)?;
             let inflow = masks.variable[target as usize];
-            check_reach(rule::REACHING, place, context, inflow)?;
+            check_reach(Rule::Reaching, place, context, inflow)?;
         }
         RecordKind::Sign => {
             let target = check_three(first, place, masks.variables, masks.variables)?;
             let reading = context.with_variable(first.c).with_variable(first.b);
             let inflow = masks.variable[target as usize];
-            check_reach(rule::REACHING, place, reading, inflow)?;
+            check_reach(Rule::Reaching, place, reading, inflow)?;
         }
         RecordKind::Release => {
             let target = check_three(first, place, masks.variables, masks.permits)?;
@@ -85,7 +85,7 @@ pub(crate) fn check_record(
         RecordKind::Raise => {
             let condition = check_raise(first, place, masks.conditions)?;
             let inflow = masks.condition[condition as usize];
-            check_reach(rule::REACHING, place, context, inflow)?;
+            check_reach(Rule::Reaching, place, context, inflow)?;
         }
         RecordKind::VariableTest => {
             check_variable_test(first, place, masks.variables, opened)?;
@@ -96,10 +96,10 @@ pub(crate) fn check_record(
         RecordKind::Loop => {
             check_variable_test(first, place, masks.variables, opened)?;
             let inside = context.with_variable(first.b);
-            check_reach(rule::LOOP_LOWEST, place, inside, masks.lowest)?;
+            check_reach(Rule::LoopLowest, place, inside, masks.lowest)?;
         }
         RecordKind::Mark => check_mark(first, place)?,
-        RecordKind::Misplaced => return Err(Refusal::new(rule::PROGRAM_LETTER, place, 0)),
+        RecordKind::Misplaced => return Err(Rule::ProgramLetter.at(place, 0)),
     }
     Ok(kind)
 }

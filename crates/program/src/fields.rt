@@ -3,17 +3,17 @@ ghost use Rattle.std.specs.Prelude.{◌≡◌, ◌<◌};
 ghost use Rattle.records.specs.Rules.{judged};
 ghost use Rattle.program.specs.Checks.{set_fields, three_fields, raise_fields, variable_test_fields, condition_test_fields, mark_fields};
 
-use records::{Record, Refusal, rule};
+use records::{Record, Refusal, Rule};
 
 // S: its target.
 pub(crate) fn check_set(first: Record, place: usize, variables: usize) -> Result<u8, Refusal>
     ensures { result ≡ judged (set_fields first place variables) first.a }
 {
     if first.b != 0 || first.c != 0 {
-        return Err(Refusal::new(rule::PROGRAM_FIELDS, place, 0));
+        return Err(Rule::ProgramFields.at(place, 0));
     }
     if first.a as usize >= variables {
-        return Err(Refusal::new(rule::DECLARED, place, first.a as u32));
+        return Err(Rule::Declared.at(place, first.a as u32));
     }
     Ok(first.a)
 }
@@ -28,16 +28,16 @@ pub(crate) fn check_three(
     ensures { result ≡ judged (three_fields first place variables thirds) first.a }
 {
     if first.n != 0 {
-        return Err(Refusal::new(rule::PROGRAM_FIELDS, place, 0));
+        return Err(Rule::ProgramFields.at(place, 0));
     }
     if first.a as usize >= variables {
-        return Err(Refusal::new(rule::DECLARED, place, first.a as u32));
+        return Err(Rule::Declared.at(place, first.a as u32));
     }
     if first.b as usize >= variables {
-        return Err(Refusal::new(rule::DECLARED, place, first.b as u32));
+        return Err(Rule::Declared.at(place, first.b as u32));
     }
     if first.c as usize >= thirds {
-        return Err(Refusal::new(rule::DECLARED, place, first.c as u32));
+        return Err(Rule::Declared.at(place, first.c as u32));
     }
     Ok(first.a)
 }
@@ -47,10 +47,10 @@ pub(crate) fn check_raise(first: Record, place: usize, conditions: usize) -> Res
     ensures { result ≡ judged (raise_fields first place conditions) first.a }
 {
     if first.b != 0 || first.c != 0 || first.n != 0 {
-        return Err(Refusal::new(rule::PROGRAM_FIELDS, place, 0));
+        return Err(Rule::ProgramFields.at(place, 0));
     }
     if first.a as usize >= conditions {
-        return Err(Refusal::new(rule::DECLARED, place, first.a as u32));
+        return Err(Rule::Declared.at(place, first.a as u32));
     }
     Ok(first.a)
 }
@@ -66,13 +66,13 @@ pub(crate) fn check_variable_test(
     ensures { result ≡ judged (variable_test_fields first place variables opened) first.b }
 {
     if first.a != 0 || first.c != 0 || first.n != 0 {
-        return Err(Refusal::new(rule::PROGRAM_FIELDS, place, 0));
+        return Err(Rule::ProgramFields.at(place, 0));
     }
     if first.b as usize >= variables {
-        return Err(Refusal::new(rule::DECLARED, place, first.b as u32));
+        return Err(Rule::Declared.at(place, first.b as u32));
     }
     if opened + 1 > 8 {
-        return Err(Refusal::new(rule::NESTING, place, 0));
+        return Err(Rule::Nesting.at(place, 0));
     }
     Ok(first.b)
 }
@@ -88,13 +88,13 @@ pub(crate) fn check_condition_test(
     ensures { result ≡ judged (condition_test_fields first place conditions opened) first.a }
 {
     if first.b != 0 || first.c != 0 || first.n != 0 {
-        return Err(Refusal::new(rule::PROGRAM_FIELDS, place, 0));
+        return Err(Rule::ProgramFields.at(place, 0));
     }
     if first.a as usize >= conditions {
-        return Err(Refusal::new(rule::DECLARED, place, first.a as u32));
+        return Err(Rule::Declared.at(place, first.a as u32));
     }
     if opened + 1 > 8 {
-        return Err(Refusal::new(rule::NESTING, place, 0));
+        return Err(Rule::Nesting.at(place, 0));
     }
     Ok(first.a)
 }
@@ -104,7 +104,7 @@ pub(crate) fn check_mark(first: Record, place: usize) -> Result<(), Refusal>
     ensures { result ≡ judged (mark_fields first place) tt }
 {
     if first.a != 0 || first.b != 0 || first.c != 0 || first.n != 0 {
-        return Err(Refusal::new(rule::PROGRAM_FIELDS, place, 0));
+        return Err(Rule::ProgramFields.at(place, 0));
     }
     Ok(())
 }

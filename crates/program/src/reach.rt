@@ -1,6 +1,7 @@
 // What reaches a target, against what may.
 ghost use Rattle.std.specs.Prelude.{◌≡◌, ℕ, ◌<◌, true, false, MatchResult};
 ghost use Rattle.std.specs.Option as options;
+ghost use Rattle.records.specs.Refusals.{number};
 ghost use Rattle.records.specs.Rules.{Reading, refused, first as first_failing};
 ghost use Rattle.machine.specs.Command.{Command};
 ghost use Rattle.program.specs.Checks.{masked};
@@ -9,7 +10,7 @@ ghost use Rattle.program.specs.Misfits.{inside};
 
 use crate::context::Context;
 use flow::Inflow;
-use records::{Refusal, rule};
+use records::{Refusal, Rule};
 
 // The lowest number that the one mask has and the other has not.
 fn first_misfit(held: u64, admitted: u64) -> Option<u8>
@@ -26,20 +27,20 @@ fn first_misfit(held: u64, admitted: u64) -> Option<u8>
 
 // All that reaches the target may: the lowest variable that may not, else the lowest condition.
 pub(crate) fn check_reach(
-    number: u8,
+    rule: Rule,
     place: usize,
     context: Context,
     inflow: Inflow,
 ) -> Result<(), Refusal>
     ensures { MatchResult result
-        (λ _. (a : Reading Command) → first_failing (each_within number place (masked context.variables context.conditions) (masked inflow.variables inflow.conditions)) a ≡ a)
-        (λ e. (a : Reading Command) → first_failing (each_within number place (masked context.variables context.conditions) (masked inflow.variables inflow.conditions)) a ≡ refused e) }
+        (λ _. (a : Reading Command) → first_failing (each_within (number rule) place (masked context.variables context.conditions) (masked inflow.variables inflow.conditions)) a ≡ a)
+        (λ e. (a : Reading Command) → first_failing (each_within (number rule) place (masked context.variables context.conditions) (masked inflow.variables inflow.conditions)) a ≡ refused e) }
 {
     if let Some(variable) = first_misfit(context.variables, inflow.variables) {
-        return Err(Refusal::new(number, place, variable as u32));
+        return Err(rule.at(place, variable as u32));
     }
     if let Some(condition) = first_misfit(context.conditions as u64, inflow.conditions as u64) {
-        return Err(Refusal::new(number, place, 256 + condition as u32));
+        return Err(rule.at(place, 256 + condition as u32));
     }
     Ok(())
 }

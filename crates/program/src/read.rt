@@ -7,7 +7,7 @@ use crate::context::Context;
 use crate::innermost::Innermost;
 use crate::kept::{Instruction, Program};
 use flow::FlowMasks;
-use records::{Refusal, rule};
+use records::{Refusal, Rule};
 
 /// The most bytes that a program may have.
 pub const PROGRAM_BYTES: usize = 2048;
@@ -19,7 +19,7 @@ pub fn read_program(masks: &FlowMasks, bytes: &[u8]) -> Result<Program, Refusal>
         (λ e. ProgramRefused masks.now bytes.now e) }
 {
     if bytes.len() % 8 != 0 || bytes.len() > PROGRAM_BYTES {
-        return Err(Refusal::new(rule::PROGRAM_LENGTH, 0, 0));
+        return Err(Rule::ProgramLength.at(0, 0));
     }
     let mut instructions = [Instruction::blank(); 256];
     let mut context = Context::outermost();

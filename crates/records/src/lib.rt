@@ -1,13 +1,16 @@
 // Records of eight bytes, in which sheets, programs and calls are written, and the refusals that their readers give.
 #![tactic(auto)]
 
+mod cursor;
 mod refusal;
-pub mod rule;
+mod rule;
 
 ghost use Rattle.std.specs.Prelude.{◌≡◌, ℕ, ◌+◌, ◌<◌, [], ◌∷◌, ◌++◌, length, MatchOption};
 ghost use Rattle.records.specs.Records.{bytes as written, records};
 
+pub use cursor::Cursor;
 pub use refusal::Refusal;
+pub use rule::Rule;
 
 /// A record: its letter, three bytes and a number of four bytes, most significant first.
 #[derive(Clone, Copy)]

@@ -1,56 +1,54 @@
-// The numbers of the rules. docs/RULES.md says what each asks.
+// The rules that a call can break.
+ghost use Rattle.std.specs.Prelude.{◌≡◌};
+ghost use Rattle.records.specs.Refusals.{refusal, number};
 
-pub const NO_SHEET_YET: u8 = 1;
+use crate::refusal::Refusal;
 
-// sheets
-pub const SHEET_LENGTH: u8 = 2;
+/// A rule, by its number. docs/RULES.md says what each asks.
+#[derive(Clone, Copy, Debug, PartialEq, Eq)]
+pub enum Rule {
+    NoSheetYet = 1,
+    SheetLength = 2,
+    SheetLetter = 3,
+    SheetFields = 4,
+    NextNumber = 5,
+    KnownLevel = 6,
+    DeclaredCondition = 7,
+    TreeDepth = 8,
+    WipersBelow = 9,
+    NeedsSheet = 10,
+    ProgramLength = 11,
+    ProgramLetter = 12,
+    ProgramFields = 13,
+    Declared = 14,
+    Nesting = 15,
+    Reaching = 16,
+    LoopLowest = 17,
+    Released = 18,
+    MayBeFed = 19,
+    NotWiped = 20,
+    IsCondition = 21,
+    NeedsProgram = 22,
+    IsLevel = 23,
+    IsVariable = 24,
+    MayKnow = 25,
+    RoomForImage = 26,
+}
 
-pub const SHEET_LETTER: u8 = 3;
+impl Rule {
+    /// The refusal by this rule, asked of the record at a place.
+    pub fn at(self, place: usize, detail: u32) -> Refusal
+        ensures { result ≡ refusal (number self) place detail }
+    {
+        Refusal::new(self as u8, place, detail)
+    }
+}
 
-pub const SHEET_FIELDS: u8 = 4;
+/// The refusal by a rule that names no place and no detail.
+impl From<Rule> for Refusal {
+    ghost from_gives = { λ rule e. e ≡ refusal (number rule) 0 0 };
 
-pub const NEXT_NUMBER: u8 = 5;
-
-pub const KNOWN_LEVEL: u8 = 6;
-
-pub const DECLARED_CONDITION: u8 = 7;
-
-pub const TREE_DEPTH: u8 = 8;
-
-pub const WIPERS_BELOW: u8 = 9;
-
-// programs
-pub const PROGRAM_LENGTH: u8 = 11;
-
-pub const PROGRAM_LETTER: u8 = 12;
-
-pub const PROGRAM_FIELDS: u8 = 13;
-
-pub const DECLARED: u8 = 14;
-
-pub const NESTING: u8 = 15;
-
-pub const REACHING: u8 = 16;
-
-pub const LOOP_LOWEST: u8 = 17;
-
-pub const RELEASED: u8 = 18;
-
-// calls
-pub const NEEDS_SHEET: u8 = 10;
-
-pub const MAY_BE_FED: u8 = 19;
-
-pub const NOT_WIPED: u8 = 20;
-
-pub const IS_CONDITION: u8 = 21;
-
-pub const NEEDS_PROGRAM: u8 = 22;
-
-pub const IS_LEVEL: u8 = 23;
-
-pub const IS_VARIABLE: u8 = 24;
-
-pub const MAY_KNOW: u8 = 25;
-
-pub const ROOM_FOR_IMAGE: u8 = 26;
+    fn from(rule: Rule) -> Refusal {
+        rule.at(0, 0)
+    }
+}

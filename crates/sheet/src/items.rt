@@ -11,20 +11,20 @@ use crate::position::RecordKind;
 use crate::rows::SheetTable;
 use crate::variables::read_variable;
 use lattice::Lattice;
-use records::{Record, Refusal, rule};
+use records::{Record, Refusal, Rule};
 
 // A condition's level.
 fn check_condition(first: Record, place: usize, count: usize, known: bool) -> Result<u32, Refusal>
     ensures { result ≡ judged (condition_rules first place count known) first.n }
 {
     if first.b != 0 || first.c != 0 {
-        return Err(Refusal::new(rule::SHEET_FIELDS, place, 0));
+        return Err(Rule::SheetFields.at(place, 0));
     }
     if first.a as usize != count || first.a >= 16 {
-        return Err(Refusal::new(rule::NEXT_NUMBER, place, 0));
+        return Err(Rule::NextNumber.at(place, 0));
     }
     if !known {
-        return Err(Refusal::new(rule::KNOWN_LEVEL, place, first.n));
+        return Err(Rule::KnownLevel.at(place, first.n));
     }
     Ok(first.n)
 }
@@ -53,6 +53,6 @@ pub(crate) fn read_item<'a, L: Lattice>(
         }
         RecordKind::Variable => read_variable(lattice, first, bytes, place, known, table),
         RecordKind::Permit => read_permit(first, bytes, place, known, table),
-        _ => Err(Refusal::new(rule::SHEET_LETTER, place, 0)),
+        _ => Err(Rule::SheetLetter.at(place, 0)),
     }
 }

@@ -11,17 +11,17 @@ ghost use Rattle.sheet.specs.Reading.{ItemRead, ItemRefused};
 use crate::rows::{Grant, SheetTable};
 use crate::trees::read_tree;
 use policy::Row;
-use records::{Record, Refusal, rule};
+use records::{Record, Refusal, Rule};
 
 // The permit's mask of conditions.
 fn check_permit(first: Record, place: usize, count: usize) -> Result<u32, Refusal>
     ensures { result ≡ judged (permit_rules first place count) first.n }
 {
     if first.b != 0 || first.c != 0 {
-        return Err(Refusal::new(rule::SHEET_FIELDS, place, 0));
+        return Err(Rule::SheetFields.at(place, 0));
     }
     if first.a as usize != count || first.a >= 8 {
-        return Err(Refusal::new(rule::NEXT_NUMBER, place, 0));
+        return Err(Rule::NextNumber.at(place, 0));
     }
     Ok(first.n)
 }
@@ -44,7 +44,7 @@ fn check_mask(mask: u32, conditions: usize, place: usize) -> Result<(), Refusal>
 {
     for condition in 0..32usize {
         if !is_declared(mask, condition, conditions) {
-            return Err(Refusal::new(rule::DECLARED_CONDITION, place, condition as u32));
+            return Err(Rule::DeclaredCondition.at(place, condition as u32));
         }
     }
     Ok(())

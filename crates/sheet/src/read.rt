@@ -6,7 +6,7 @@ use crate::items::read_item;
 use crate::levels::tabulate_known;
 use crate::rows::SheetTable;
 use lattice::Lattice;
-use records::{Refusal, next_record, rule};
+use records::{Refusal, Rule, next_record};
 
 /// The most bytes that a sheet may have.
 pub const SHEET_BYTES: usize = 4096;
@@ -18,7 +18,7 @@ pub fn read_sheet<L: Lattice>(lattice: &L, bytes: &[u8]) -> Result<SheetTable, R
         (λ e. SheetRefused (L.Lattice.lattice lattice.now) bytes.now e) }
 {
     if bytes.len() % 8 != 0 || bytes.len() > SHEET_BYTES {
-        return Err(Refusal::new(rule::SHEET_LENGTH, 0, 0));
+        return Err(Rule::SheetLength.at(0, 0));
     }
     let mut known = [false; SHEET_BYTES / 8];
     tabulate_known(lattice, bytes, &mut known);

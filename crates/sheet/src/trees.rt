@@ -9,20 +9,20 @@ ghost use Rattle.sheet.specs.Reading.{TreeRefused, TreeRead};
 use crate::letters::kind_at;
 use crate::position::{Position, RecordKind};
 use policy::{Row, condition_bit};
-use records::{Record, Refusal, next_record, rule};
+use records::{Record, Refusal, Rule, next_record};
 
 // A leaf's level.
 fn check_leaf(leaf: Record, place: usize, depth: u8, known: bool) -> Result<u32, Refusal>
     ensures { result ≡ judged (leaf_rules leaf place depth known) leaf.n }
 {
     if leaf.a != 0 || leaf.b != 0 || leaf.c != 0 {
-        return Err(Refusal::new(rule::SHEET_FIELDS, place, 0));
+        return Err(Rule::SheetFields.at(place, 0));
     }
     if !known {
-        return Err(Refusal::new(rule::KNOWN_LEVEL, place, leaf.n));
+        return Err(Rule::KnownLevel.at(place, leaf.n));
     }
     if depth > 4 {
-        return Err(Refusal::new(rule::TREE_DEPTH, place, 0));
+        return Err(Rule::TreeDepth.at(place, 0));
     }
     Ok(leaf.n)
 }
@@ -32,13 +32,13 @@ fn check_node(node: Record, place: usize, depth: u8, conditions: usize) -> Resul
     ensures { result ≡ judged (node_rules node place depth conditions) node.a }
 {
     if node.b != 0 || node.c != 0 || node.n != 0 {
-        return Err(Refusal::new(rule::SHEET_FIELDS, place, 0));
+        return Err(Rule::SheetFields.at(place, 0));
     }
     if node.a as usize >= conditions {
-        return Err(Refusal::new(rule::DECLARED_CONDITION, place, node.a as u32));
+        return Err(Rule::DeclaredCondition.at(place, node.a as u32));
     }
     if depth > 4 {
-        return Err(Refusal::new(rule::TREE_DEPTH, place, 0));
+        return Err(Rule::TreeDepth.at(place, 0));
     }
     Ok(node.a)
 }
@@ -61,7 +61,7 @@ pub(crate) fn read_tree<'a>(
         (λ e. TreeRefused known.now conditions place depth (records bytes.now) e) }
 {
     let Some((first, rest)) = next_record(bytes) else {
-        return Err(Refusal::new(rule::SHEET_LETTER, place, 0));
+        return Err(Rule::SheetLetter.at(place, 0));
     };
     match kind_at(first.letter, Position::Tree) {
         RecordKind::Leaf => {
@@ -91,6 +91,6 @@ pub(crate) fn read_tree<'a>(
                 row,
             )
         }
-        _ => Err(Refusal::new(rule::SHEET_LETTER, place, 0)),
+        _ => Err(Rule::SheetLetter.at(place, 0)),
     }
 }

@@ -10,17 +10,17 @@ use crate::rows::{SheetTable, VariableRow};
 use crate::trees::read_tree;
 use crate::wipers::check_wipers;
 use lattice::Lattice;
-use records::{Record, Refusal, rule};
+use records::{Record, Refusal, Rule};
 
 // Whether the outside may feed the variable.
 fn check_variable(first: Record, place: usize, count: usize) -> Result<bool, Refusal>
     ensures { result ≡ judged (variable_rules first place count) (first.b == 1) }
 {
     if first.b > 1 || first.c != 0 || first.n != 0 {
-        return Err(Refusal::new(rule::SHEET_FIELDS, place, 0));
+        return Err(Rule::SheetFields.at(place, 0));
     }
     if first.a as usize != count || first.a >= 64 {
-        return Err(Refusal::new(rule::NEXT_NUMBER, place, 0));
+        return Err(Rule::NextNumber.at(place, 0));
     }
     Ok(first.b == 1)
 }

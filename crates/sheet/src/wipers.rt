@@ -6,7 +6,7 @@ ghost use Rattle.sheet.specs.Sheet.{Sheet};
 ghost use Rattle.sheet.specs.Checks.{wiper_rules};
 
 use lattice::Lattice;
-use records::{Refusal, rule};
+use records::{Refusal, Rule};
 
 fn may_wipe<L: Lattice>(
     lattice: &L,
@@ -37,7 +37,7 @@ pub(crate) fn check_wipers<L: Lattice>(
 {
     for condition in 0..16usize {
         if !may_wipe(lattice, wipers, condition, levels[condition], present) {
-            return Err(Refusal::new(rule::WIPERS_BELOW, place, condition as u32));
+            return Err(Rule::WipersBelow.at(place, condition as u32));
         }
     }
     Ok(())

@@ -1,7 +1,6 @@
 // The calls on a box.
 ghost use Rattle.std.specs.Prelude.{◌≡◌, ℕ, ◌<◌, ◌≤◌, false, length, get_or, replicate, pos, if◌then◌else◌, None, nat_eq, slice_index_or};
 ghost use Rattle.std.proofs.Math.Seq.{paste};
-ghost use Rattle.records.specs.Refusals.{refusal};
 ghost use Rattle.policy.specs.Masks.{bit};
 ghost use Rattle.sheet.specs.Table.{blank_variable};
 ghost use Rattle.machine.specs.Calls.{Call};
@@ -16,16 +15,9 @@ use flow::flow_masks;
 use interpreter::{Ending, pass, raise};
 use lattice::Lattice;
 use program::read_program;
-use records::{Refusal, rule};
+use records::{Refusal, Rule};
 use sheet::{SheetTable, read_sheet};
 use store::Store;
-
-// A refusal by a rule that names no place and no detail.
-fn broken(number: u8) -> Refusal
-    ensures { result ≡ refusal number 0 0 }
-{
-    Refusal::new(number, 0, 0)
-}
 
 // A mask of conditions without one of them.
 fn without(up: u16, condition: u8) -> u16
@@ -97,7 +89,7 @@ impl<L: Lattice, S: Store> SiteBox<L, S> {
         ensures { Obeys L.Lattice.lattice S.Store.values S.Store.image count self.old self.new (Call.sheet bytes.now) result }
     {
         if self.sheet.is_some() {
-            return Err(broken(rule::NO_SHEET_YET));
+            return Err(Rule::NoSheetYet.into());
         }
         let table = read_sheet(&self.lattice, bytes)?;
         let masks = flow_masks(&self.lattice, &table);
@@ -117,7 +109,7 @@ impl<L: Lattice, S: Store> SiteBox<L, S> {
         ensures { Obeys L.Lattice.lattice S.Store.values S.Store.image count self.old self.new (Call.load bytes.now) result }
     {
         let Some(sheet) = &self.sheet else {
-            return Err(broken(rule::NEEDS_SHEET));
+            return Err(Rule::NeedsSheet.into());
         };
         let program = read_program(&sheet.masks, bytes)?;
         self.program = Some(program);
@@ -129,18 +121,18 @@ impl<L: Lattice, S: Store> SiteBox<L, S> {
         ensures { Obeys L.Lattice.lattice S.Store.values S.Store.image nothing self.old self.new (Call.feed variable value) result }
     {
         let Some(sheet) = &self.sheet else {
-            return Err(broken(rule::NEEDS_SHEET));
+            return Err(Rule::NeedsSheet.into());
         };
         let place = variable as usize;
         if place >= sheet.masks.variables {
-            return Err(broken(rule::IS_VARIABLE));
+            return Err(Rule::IsVariable.into());
         }
         if !sheet.access[place].fed {
-            return Err(broken(rule::MAY_BE_FED));
+            return Err(Rule::MayBeFed.into());
         }
         let wipers = sheet.masks.wipers[place];
         if wipers & self.up != 0 {
-            return Err(broken(rule::NOT_WIPED));
+            return Err(Rule::NotWiped.into());
         }
         self.store.put(place, value);
         Ok(())
@@ -151,10 +143,10 @@ impl<L: Lattice, S: Store> SiteBox<L, S> {
         ensures { Obeys L.Lattice.lattice S.Store.values S.Store.image nothing self.old self.new (Call.raise condition) result }
     {
         let Some(sheet) = &self.sheet else {
-            return Err(broken(rule::NEEDS_SHEET));
+            return Err(Rule::NeedsSheet.into());
         };
         if condition as usize >= sheet.masks.conditions {
-            return Err(broken(rule::IS_CONDITION));
+            return Err(Rule::IsCondition.into());
         }
         raise(&sheet.masks, &mut self.store, &mut self.up, condition);
         Ok(())
@@ -165,10 +157,10 @@ impl<L: Lattice, S: Store> SiteBox<L, S> {
         ensures { Obeys L.Lattice.lattice S.Store.values S.Store.image nothing self.old self.new (Call.lower condition) result }
     {
         let Some(sheet) = &self.sheet else {
-            return Err(broken(rule::NEEDS_SHEET));
+            return Err(Rule::NeedsSheet.into());
         };
         if condition as usize >= sheet.masks.conditions {
-            return Err(broken(rule::IS_CONDITION));
+            return Err(Rule::IsCondition.into());
         }
         self.up = without(self.up, condition);
         Ok(())
@@ -179,10 +171,10 @@ impl<L: Lattice, S: Store> SiteBox<L, S> {
         ensures { Obeys L.Lattice.lattice S.Store.values S.Store.image ending self.old self.new (Call.pass turns) result }
     {
         let Some(sheet) = &self.sheet else {
-            return Err(broken(rule::NEEDS_SHEET));
+            return Err(Rule::NeedsSheet.into());
         };
         let Some(program) = &self.program else {
-            return Err(broken(rule::NEEDS_PROGRAM));
+            return Err(Rule::NeedsProgram.into());
         };
         Ok(pass(program, &sheet.masks, &mut self.store, &mut self.up, turns))
     }
@@ -192,17 +184,17 @@ impl<L: Lattice, S: Store> SiteBox<L, S> {
         ensures { Obeys L.Lattice.lattice S.Store.values S.Store.image itself self.now self.now (Call.look level variable) result }
     {
         let Some(sheet) = &self.sheet else {
-            return Err(broken(rule::NEEDS_SHEET));
+            return Err(Rule::NeedsSheet.into());
         };
         if !self.lattice.known(level) {
-            return Err(broken(rule::IS_LEVEL));
+            return Err(Rule::IsLevel.into());
         }
         let place = variable as usize;
         if place >= sheet.masks.variables {
-            return Err(broken(rule::IS_VARIABLE));
+            return Err(Rule::IsVariable.into());
         }
         if !self.lattice.below(sheet.access[place].present, level) {
-            return Err(broken(rule::MAY_KNOW));
+            return Err(Rule::MayKnow.into());
         }
         Ok(self.store.get(place))
     }
@@ -212,16 +204,16 @@ impl<L: Lattice, S: Store> SiteBox<L, S> {
         ensures { Obeys L.Lattice.lattice S.Store.values S.Store.image one_if self.now self.now (Call.ask level condition) result }
     {
         let Some(sheet) = &self.sheet else {
-            return Err(broken(rule::NEEDS_SHEET));
+            return Err(Rule::NeedsSheet.into());
         };
         if !self.lattice.known(level) {
-            return Err(broken(rule::IS_LEVEL));
+            return Err(Rule::IsLevel.into());
         }
         if condition as usize >= sheet.masks.conditions {
-            return Err(broken(rule::IS_CONDITION));
+            return Err(Rule::IsCondition.into());
         }
         if !self.lattice.below(sheet.levels[condition as usize], level) {
-            return Err(broken(rule::MAY_KNOW));
+            return Err(Rule::MayKnow.into());
         }
         Ok((self.up >> condition) & 1 == 1)
     }
@@ -232,17 +224,17 @@ impl<L: Lattice, S: Store> SiteBox<L, S> {
         ensures fills { Fills (S.Store.image (S.Store.values self.now.store)) buffer.old buffer.new result }
     {
         let Some(sheet) = &self.sheet else {
-            return Err(broken(rule::NEEDS_SHEET));
+            return Err(Rule::NeedsSheet.into());
         };
         if !self.lattice.known(level) {
-            return Err(broken(rule::IS_LEVEL));
+            return Err(Rule::IsLevel.into());
         }
         if !all_below(&self.lattice, sheet, level) {
-            return Err(broken(rule::MAY_KNOW));
+            return Err(Rule::MayKnow.into());
         }
         let size = self.store.image_len();
         if buffer.len() < size {
-            return Err(broken(rule::ROOM_FOR_IMAGE));
+            return Err(Rule::RoomForImage.into());
         }
         draw(&self.store, buffer, size);
         Ok(size)

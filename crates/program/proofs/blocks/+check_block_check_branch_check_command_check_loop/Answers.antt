@@ -75,7 +75,7 @@ check_block-returns t c =
     record {
       restored = search rules;
       forward = tt;
-      answer = rw c.new.ensures
+      answer = rw c.at.ensures
           (steps.refused_after _ _ _ _ i.4 (steps.refused_as _ _ _ _ (records_short c.loop-first.left.now c.in_default.ensures) (steps.left_open _ _ _ c.args.innermost _ c.in_default-innermost.not-Outermost)));
     }
 

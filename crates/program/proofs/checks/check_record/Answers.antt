@@ -94,4 +94,4 @@ pub returns-in_ok-check_mark-in-Mark : goal.returns-in_ok-check_mark-in-Mark
 returns-in_ok-check_mark-in-Mark c = steps.passed_as c.args.masks.now c.args.context c.args.opened c.args.innermost c.args.place c.args.first c.in-Mark.is (steps.fields_passed c.args.masks.now c.args.context c.args.opened c.args.innermost c.args.place c.args.first tt _ (steps.marking c.args.masks.now c.args.context c.args.opened c.args.place c.args.first c.args.innermost c.in-Mark.ensures).1 c.in_ok-check_mark-in-Mark.ensures)
 
 pub returns-in-Misplaced : goal.returns-in-Misplaced
-returns-in-Misplaced c = rw c.new.ensures (steps.misplaced c.args.masks.now c.args.context c.args.opened c.args.innermost c.args.place c.args.first c.in-Misplaced.ensures)
+returns-in-Misplaced c = rw c.at.ensures (steps.misplaced c.args.masks.now c.args.context c.args.opened c.args.innermost c.args.place c.args.first c.in-Misplaced.ensures)

@@ -7,7 +7,7 @@ use Rattle.program.proofs.read.read_program.Goals as goal
 pub returns-then-bytes-ne0 : goal.returns-then-bytes-ne0
 returns-then-bytes-ne0 c =
     let h : whole_records c.args.bytes.now ≡ false = search rules in
-    rw c.new.ensures (wrong_length c.args.masks.now c.args.bytes.now h)
+    rw c.at.ensures (wrong_length c.args.masks.now c.args.bytes.now h)
 
 pub returns-in_err-count : goal.returns-in_err-count
 returns-in_err-count c =

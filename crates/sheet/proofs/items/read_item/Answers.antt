@@ -51,5 +51,5 @@ returns-in_default g c = record {
   forward = tt;
   answer =
       let n = no_item c.args.first.letter c.args.table.now.variables c.args.table.now.permits _ _ c.position.ensures c.kind_at.ensures c.in_default.not-Condition c.in_default.not-Variable c.in_default.not-Permit in
-      rw c.new.ensures (steps.refused_letter _ _ c.args.table.now _ c.args.first (records c.args.bytes.now) n.0 n.1 n.2);
+      rw c.at.ensures (steps.refused_letter _ _ c.args.table.now _ c.args.first (records c.args.bytes.now) n.0 n.1 n.2);
 }

@@ -10,7 +10,7 @@ use Rattle.sheet.proofs.read.read_sheet.Goals as goal
 pub returns-then-bytes-ne0 : goal.returns-then-bytes-ne0
 returns-then-bytes-ne0 g c =
     let h : whole_records c.args.bytes.now ≡ false = search rules in
-    rw c.new.ensures (wrong_length (g.L.Lattice.lattice c.args.lattice.now) c.args.bytes.now h)
+    rw c.at.ensures (wrong_length (g.L.Lattice.lattice c.args.lattice.now) c.args.bytes.now h)
 
 pub loop-first-init : goal.loop-first-init
 loop-first-init g c =

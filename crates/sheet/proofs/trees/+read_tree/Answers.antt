@@ -11,7 +11,7 @@ use Rattle.sheet.proofs.trees.+read_tree.Goals as goal
 pub returns-in_default : goal.returns-in_default
 returns-in_default t c = record {
   forward = tt;
-  answer = rw c.new.ensures (refused_as (records_short c.args.bytes.now c.in_default.ensures) (steps.refused_end c.args.known.now c.args.conditions c.args.place c.args.depth));
+  answer = rw c.at.ensures (refused_as (records_short c.args.bytes.now c.in_default.ensures) (steps.refused_end c.args.known.now c.args.conditions c.args.place c.args.depth));
 }
 
 pub returns-in_default-kind_at : goal.returns-in_default-kind_at
@@ -19,7 +19,7 @@ returns-in_default-kind_at t c = record {
   forward = tt;
   answer =
       let n = neither c.in-Some.first.letter _ c.kind_at.ensures c.in_default-kind_at.not-Leaf c.in_default-kind_at.not-Node in
-      rw c.new-in_default-kind_at.ensures (refused_as c.in-Some.ensures.1 (steps.refused_letter _ _ _ _ c.in-Some.first (records c.in-Some.rest.now) n.0 n.1));
+      rw c.at-in_default-kind_at.ensures (refused_as c.in-Some.ensures.1 (steps.refused_letter _ _ _ _ c.in-Some.first (records c.in-Some.rest.now) n.0 n.1));
 }
 
 pub returns-in_err-level-in-Leaf : goal.returns-in_err-level-in-Leaf
