@@ -14,7 +14,7 @@ returns-then-wipers-self-ne0 g c =
     let k = c.in-Some.sheet in
     let v = c.args.variable in
     let d = c.if-place-sheet.false in
-    obeys _ _ _ _ _ _ _ _ refl (λ e q. refl) (stays C g.S.Store.image b.sheet b.program k (g.S.Store.values b.store) b.up c.in-Some.is _ _ _ (ap Answer.refused c.broken-then-wipers-self-ne0.ensures) (λ sh p K.
+    obeys _ _ _ _ _ _ _ _ refl (λ e q. refl) (stays C g.S.Store.image b.sheet b.program k (g.S.Store.values b.store) b.up c.in-Some.is _ _ _ (ap Answer.refused c.into-then-wipers-self-ne0.ensures) (λ sh p K.
     yes _ _ _ (has_variable C sh k K v d) ∙ yes _ _ _ (is_fed C sh k K v _ d c.if-not-sheet-place.false) ∙ noes _ _ _ (is_wiped C sh k K v b.up c.if-wipers-self-ne0.true)))
 
 pub returns : goal.returns

@@ -11,7 +11,7 @@ returns-then-not-all_below g c =
     let C = g.L.Lattice.lattice b.lattice in
     let k = c.in-Some.sheet in
     record {
-      obeys = obeys _ _ _ _ _ _ _ _ refl (λ e q. refl) (stays C g.S.Store.image b.sheet b.program k (g.S.Store.values b.store) b.up c.in-Some.is _ _ _ (ap Answer.refused c.broken-then-not-all_below.ensures) (λ sh p K.
+      obeys = obeys _ _ _ _ _ _ _ _ refl (λ e q. refl) (stays C g.S.Store.image b.sheet b.program k (g.S.Store.values b.store) b.up c.in-Some.is _ _ _ (ap Answer.refused c.into-then-not-all_below.ensures) (λ sh p K.
           yes _ _ _ (sym c.if-not-known.ensures) ∙ noes _ _ _ (all_readable C sh k K c.args.level _ (sym c.if-not-all_below.ensures))));
       fills = untouched _ _ _ _ refl;
     }
@@ -23,7 +23,7 @@ returns-then-buffer-size g c =
     let k = c.in-Some.sheet in
     let xs = g.S.Store.values b.store in
     record {
-      obeys = obeys _ _ _ _ _ _ _ _ refl (λ e q. refl) (stays C g.S.Store.image b.sheet b.program k xs b.up c.in-Some.is _ _ _ (ap Answer.refused c.broken-then-buffer-size.ensures) (λ sh p K.
+      obeys = obeys _ _ _ _ _ _ _ _ refl (λ e q. refl) (stays C g.S.Store.image b.sheet b.program k xs b.up c.in-Some.is _ _ _ (ap Answer.refused c.into-then-buffer-size.ensures) (λ sh p K.
           yes _ _ _ (sym c.if-not-known.ensures) ∙ yes _ _ _ (all_readable C sh k K c.args.level _ (sym c.if-not-all_below.ensures))
           ∙ noes _ _ _ (too_short g.S.Store.image xs b.up (g.met.S.Store.long b.store) _ _ c.if-buffer-size.true c.image_len-size.ensures)));
       fills = untouched _ _ _ _ refl;

@@ -10,7 +10,7 @@ returns-then-not-below g c =
     let C = g.L.Lattice.lattice b.lattice in
     let k = c.in-Some.sheet in
     let d = c.if-place-sheet.false in
-    obeys _ _ _ _ _ _ _ _ refl (λ e q. refl) (stays C g.S.Store.image b.sheet b.program k (g.S.Store.values b.store) b.up c.in-Some.is _ _ _ (ap Answer.refused c.broken-then-not-below.ensures) (λ sh p K.
+    obeys _ _ _ _ _ _ _ _ refl (λ e q. refl) (stays C g.S.Store.image b.sheet b.program k (g.S.Store.values b.store) b.up c.in-Some.is _ _ _ (ap Answer.refused c.into-then-not-below.ensures) (λ sh p K.
     yes _ _ _ (sym c.if-not-known.ensures) ∙ yes _ _ _ (has_variable C sh k K c.args.variable d)
     ∙ noes _ _ _ (is_readable C sh k K c.args.variable c.args.level _ d (sym c.if-not-below.ensures))))
 
