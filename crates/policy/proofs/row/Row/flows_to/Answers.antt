@@ -4,14 +4,6 @@ use Rattle.policy.specs.Rows.{levels_in, no_leaf}
 use Rattle.policy.proofs.RowLevels.{LeafBelow, all_pass, one_fails}
 use Rattle.policy.proofs.row.Row.flows_to.Goals as goal
 
-pub loop-leaf-preserved : goal.loop-leaf-preserved
-loop-leaf-preserved g c =
-    let C = g.L.Lattice.lattice c.args.lattice.now in
-    let gs = c.leaves-leaf-items.result.now in
-    let i = c.loop-leaf.leaf-index in
-    below_more (λ k. LeafBelow C (levels_in c.args.other.now) (get_or gs k no_leaf)) i c.loop-leaf.invariant
-    (ap (C.below (get_or gs i no_leaf).level) (sym c.level_under.ensures.equals) ∙ sym c.below.ensures ∙ c.if-not-below.false)
-
 pub returns : goal.returns
 returns g c =
     all_pass (g.met.L.Lattice.lawful c.args.lattice.now) c.args.self.now c.args.other.now c.leaves-leaf-items.result.now c.leaves-leaf-items.ensures
