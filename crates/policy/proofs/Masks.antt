@@ -122,22 +122,6 @@ bit_raised c u k h = bit_including c u k h ∙ either (eqb k c) (bit k u)
     either true d = refl
     either false d = refl
 
-pub bit_lowered : (c u k : ℕ) → c < 16 → bit c u ≡ true → bit k (bit_xor u ((1 * 2 ^ c) % 2 ^ 16)) ≡ cond (eqb k c) false (bit k u)
-bit_lowered c u k h t =
-    bit_xor_lem k u _ ∙ ap (λ (n : ℕ). cond (bit k n) (not (bit k u)) (bit k u)) (one_shl c 16 h) ∙ ap (λ b. cond b (not (bit k u)) (bit k u)) (bit_pow k c)
-    ∙ elim (cases_Bool (eqb k c)) [
-      | inl e ↦ ap (λ b. cond b (not (bit k u)) (bit k u)) e ∙ ap not (ap (λ (n : ℕ). bit n u) (eqb-true k c e) ∙ t) ∙ sym (ap (λ b. cond b false (bit k u)) e)
-      | inr e ↦ ap (λ b. cond b (not (bit k u)) (bit k u)) e ∙ sym (ap (λ b. cond b false (bit k u)) e)
-    ]
-
--- a condition that is down stays down
-pub bit_down : (c u k : ℕ) → bit c u ≡ false → bit k u ≡ cond (eqb k c) false (bit k u)
-bit_down c u k t =
-    elim (cases_Bool (eqb k c)) [
-      | inl e ↦ ap (λ (n : ℕ). bit n u) (eqb-true k c e) ∙ t ∙ sym (ap (λ b. cond b false (bit k u)) e)
-      | inr e ↦ sym (ap (λ b. cond b false (bit k u)) e)
-    ]
-
 -- the test `w >> c & 1 == 1`
 pub bit_test : (c w : ℕ) → eqb (bit_and (w / 2 ^ c) 1) 1 ≡ bit c w
 unfolding bit
