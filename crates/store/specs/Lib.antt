@@ -8,4 +8,4 @@ pub mod NormalForm
 pub mod Ascending
 pub mod UsedEntries
 pub mod Moves
-pub mod StoreSparseLemmas
+pub mod Kept

@@ -10,6 +10,7 @@ use Rattle.store.specs.declared.entry.Entry.{Entry}
 use Rattle.store.specs.Entries.{unused, is_zero, entry_of, used_from, entries_of, value_at, values_of, ascend_from}
 use Rattle.store.specs.Positions.{before}
 use Rattle.store.specs.Ascending.{ascend_used}
+use Rattle.store.specs.Kept.{Kept}
 use Rattle.store.specs.Moves.{inserted_part, removed_part, set_part}
 use Rattle.store.specs.UsedEntries.{zero_is, entry_none, entry_one, used_append, used_short, value_at_lem, before_lower, before_upper, head_above}
 
@@ -36,20 +37,19 @@ values_entries vs n =
     (λ p h. get_or_values es p (omega arith) ∙ ap (value_at es) (omega arith) ∙ value_at_lem 0 vs (64 - length (used_from 0 vs)) p (omega arith))
 
 -- Entries and a count that are kept for the values ws.
-pub record Kept (es : List Entry) (used : ℕ) (ws : List ℤ) : Type 0 where
-  pub full : length es ≡ 64
-  pub room : used ≤ 64
-  pub ordered : ascend_from 0 (take used es) ≡ true
-  pub blank : drop used es ≡ replicate (64 - used) unused
+pub record KeptFor (es : List Entry) (used : ℕ) (ws : List ℤ) : Type 0 where
+  pub kept : Kept es used
   pub values : values_of es ≡ ws
 
-pub kept : (es : List Entry) (used : ℕ) (ws : List ℤ) → length ws ≡ 64 → es ≡ entries_of ws → used ≡ length (used_from 0 ws) → Kept es used ws
+pub kept_for : (es : List Entry) (used : ℕ) (ws : List ℤ) → length ws ≡ 64 → es ≡ entries_of ws → used ≡ length (used_from 0 ws) → KeptFor es used ws
 unfolding entries_of
-kept es used ws n e u = record {
-  full = ap length e ∙ length_entries ws n;
-  room = omega (arith, used_short 0 ws);
-  ordered = ap (ascend_from 0) (ap (take used) e ∙ take_at (used_from 0 ws) _ used (sym u)) ∙ ascend_used 0 ws (omega arith);
-  blank = ap (drop used) e ∙ drop_at (used_from 0 ws) _ used (sym u) ∙ ap (λ m. replicate (64 - m) unused) (sym u);
+kept_for es used ws n e u = record {
+  kept = record {
+    full = ap length e ∙ length_entries ws n;
+    room = omega (arith, used_short 0 ws);
+    ordered = ap (ascend_from 0) (ap (take used) e ∙ take_at (used_from 0 ws) _ used (sym u)) ∙ ascend_used 0 ws (omega arith);
+    blank = ap (drop used) e ∙ drop_at (used_from 0 ws) _ used (sym u) ∙ ap (λ m. replicate (64 - m) unused) (sym u);
+  };
   values = ap values_of e ∙ values_entries ws n;
 }
 
@@ -151,28 +151,28 @@ module _ (vs : List ℤ) (n : length vs ≡ 64) (p : ℕ) (h : p < 64) where
       put_none z y = ap (set vs p) (zero_is v y ∙ sym (zero_is old z)) ∙ same
 
       pub put_insert : is_zero old ≡ true → is_zero v ≡ false
-          → Kept (take at es ++ (record { place = p; value = v } ∷ (between at used es ++ drop (used + 1) es))) (used + 1) (slice_set vs p v)
+          → KeptFor (take at es ++ (record { place = p; value = v } ∷ (between at used es ++ drop (used + 1) es))) (used + 1) (slice_set vs p v)
       put_insert z y =
           let u = (free z).0 in
           let q = at_is in
-          kept _ _ (slice_set vs p v) (length-set vs p v ∙ n)
+          kept_for _ _ (slice_set vs p v) (length-set vs p v ∙ n)
           (inserted_part lower upper (63 - both) at used unused (sym q) (record { place = p; value = v }) (omega arith) es (free z).1
           ∙ sym (entries_held v y))
           (omega (arith, count_held v y))
 
       pub put_remove : is_zero old ≡ false → is_zero v ≡ true
-          → Kept (take at es ++ (between (at + 1) used es ++ (unused ∷ drop used es))) (used - 1) (slice_set vs p v)
+          → KeptFor (take at es ++ (between (at + 1) used es ++ (unused ∷ drop used es))) (used - 1) (slice_set vs p v)
       put_remove z y =
           let u = (held z).0 in
           let q = at_is in
-          kept _ _ (slice_set vs p v) (length-set vs p v ∙ n)
+          kept_for _ _ (slice_set vs p v) (length-set vs p v ∙ n)
           (removed_part lower upper (63 - both) at used unused (sym q) (record { place = p; value = old }) (omega arith) es (held z).1
           ∙ sym (entries_free v y))
           (omega (arith, count_free v y))
 
-      pub put_over : is_zero old ≡ false → is_zero v ≡ false → Kept (set es at record { place = p; value = v }) used (slice_set vs p v)
+      pub put_over : is_zero old ≡ false → is_zero v ≡ false → KeptFor (set es at record { place = p; value = v }) used (slice_set vs p v)
       put_over z y =
-          kept _ _ (slice_set vs p v) (length-set vs p v ∙ n)
+          kept_for _ _ (slice_set vs p v) (length-set vs p v ∙ n)
           (set_part lower upper (63 - both) at used unused (sym at_is) (record { place = p; value = old }) (record { place = p; value = v }) es (held z).1
           ∙ sym (entries_held v y))
           ((held z).0 ∙ sym (count_held v y))

@@ -44,7 +44,7 @@ impl Store for DenseStore {
     }
 
     fn get(&self, place: usize) -> i32 {
-        if place < PLACES { self.cells[place] } else { 0 }
+        self.cells.get(place).copied().unwrap_or(0)
     }
 
     fn image_len(&self) -> usize {
@@ -52,10 +52,9 @@ impl Store for DenseStore {
     }
 
     fn image_byte(&self, at: usize) -> u8 {
-        if at / 4 < PLACES {
-            self.cells[at / 4].to_be_bytes()[at % 4]
-        } else {
-            0
+        match self.cells.get(at / 4) {
+            Some(cell) => cell.to_be_bytes()[at % 4],
+            None => 0,
         }
     }
 }

@@ -3,7 +3,7 @@ use Rattle.std.proofs.lemmas.List.{set_past}
 use Rattle.std.proofs.lemmas.Int.{to_z-of_z}
 use Rattle.std.proofs.lemmas.Bool.{lt-ltb, le-ltb}
 use Rattle.store.specs.Entries.{values_of}
-use Rattle.store.specs.NormalForm.{Kept, length_values}
+use Rattle.store.specs.NormalForm.{KeptFor, length_values}
 use Rattle.store.proofs.Puts.{zero_from_bits, other_from_bits, held_room, kept_remove, kept_over, free_room, kept_none, kept_insert}
 use Rattle.store.proofs.sparse.SparseStoreStore.put.Goals as goal
 use Rattle.store.proofs.sparse.SparseStoreStore.put.Goals.{After-remove, In-Ok-2, After-insert}
@@ -20,7 +20,7 @@ returns-then-place-ge-PLACES c =
 pub remove-requires : goal.remove-requires
 remove-requires c =
     let s = c.args.self.now in
-    let full = s.full in
+    let full = s.kept.full in
     let r = held_room s c.args.place c.if-place-ge-PLACES.false c.in-Ok.at c.in-Ok.ensures in
     (omega arith, omega arith)
 
@@ -30,14 +30,14 @@ overflow_sub-self c =
     let r = held_room s c.args.place c.if-place-ge-PLACES.false c.in-Ok.at c.in-Ok.ensures in omega arith
 
 removed : (c : goal.After-remove)
-    → Kept c.remove.new.entries (c.args.self.now.used - 1) (set (values_of c.args.self.now.entries) c.args.place c.args.value)
+    → KeptFor c.remove.new.entries (c.args.self.now.used - 1) (set (values_of c.args.self.now.entries) c.args.place c.args.value)
 removed c =
     let y = zero_from_bits c.args.value c.ranges.value c.if-value-eq0.true in
     kept_remove c.args.self.now c.args.place c.if-place-ge-PLACES.false c.in-Ok.at c.in-Ok.ensures c.args.value y
     c.remove.new.entries c.remove.ensures
 
 pub invariant_of-self : goal.invariant_of-self
-invariant_of-self c = let k = removed c in record { full = k.full; room = k.room; ordered = k.ordered; blank = k.blank }
+invariant_of-self c = record { kept = (removed c).kept }
 
 pub offset_bounds-self-at : goal.offset_bounds-self-at
 offset_bounds-self-at c =
@@ -50,7 +50,7 @@ bounds-self-at c =
     let r = held_room s c.args.place c.if-place-ge-PLACES.false c.in-Ok.at c.in-Ok.ensures in omega arith
 
 written : (c : goal.In-Ok-2)
-    → Kept (set c.args.self.now.entries c.in-Ok.at record { place = c.args.place; value = to_z w32 (of_z w32 c.args.value) }) c.args.self.now.used
+    → KeptFor (set c.args.self.now.entries c.in-Ok.at record { place = c.args.place; value = to_z w32 (of_z w32 c.args.value) }) c.args.self.now.used
     (set (values_of c.args.self.now.entries) c.args.place c.args.value)
 written c =
     let v = c.args.value in
@@ -59,12 +59,12 @@ written c =
     (ap (λ x. set c.args.self.now.entries c.in-Ok.at record { place = c.args.place; value = x }) (to_z-of_z w32 v c.ranges.value))
 
 pub invariant_of-self-in-Ok-2 : goal.invariant_of-self-in-Ok-2
-invariant_of-self-in-Ok-2 c = let k = written c in record { full = k.full; room = k.room; ordered = k.ordered; blank = k.blank }
+invariant_of-self-in-Ok-2 c = record { kept = (written c).kept }
 
 pub insert-requires : goal.insert-requires
 insert-requires c =
     let s = c.args.self.now in
-    let full = s.full in
+    let full = s.kept.full in
     let r = free_room s c.args.place c.if-place-ge-PLACES.false c.in-Err.field-0 c.in-Err.ensures in
     (omega arith, omega arith)
 
@@ -74,7 +74,7 @@ overflow_add-self c =
     let r = free_room s c.args.place c.if-place-ge-PLACES.false c.in-Err.field-0 c.in-Err.ensures in search rules
 
 inserted : (c : goal.After-insert)
-    → Kept c.insert.new.entries (c.args.self.now.used + 1) (set (values_of c.args.self.now.entries) c.args.place c.args.value)
+    → KeptFor c.insert.new.entries (c.args.self.now.used + 1) (set (values_of c.args.self.now.entries) c.args.place c.args.value)
 inserted c =
     let v = c.args.value in
     let f : SFits w32 v = c.ranges.value in
@@ -83,7 +83,7 @@ inserted c =
     c.insert.new.entries (simp to_z-of_z at c.insert.ensures)
 
 pub invariant_of-self-in-Err-2 : goal.invariant_of-self-in-Err-2
-invariant_of-self-in-Err-2 c = let k = inserted c in record { full = k.full; room = k.room; ordered = k.ordered; blank = k.blank }
+invariant_of-self-in-Err-2 c = record { kept = (inserted c).kept }
 
 pub returns-in-Ok : goal.returns-in-Ok
 returns-in-Ok c =
