@@ -18,6 +18,7 @@ use crate::{PLACES, Store};
 /// The sparse store: an entry for each value that is not zero, in the order of the places, and then unused entries.
 #[derive(Drop)]
 pub struct SparseStore {
+    // An array and a count: no heap, and the image shows unused entries too, so each has a fixed content.
     entries: [Entry; 64],
     used: usize,
     ghost kept: { Kept entries used } by { kept_prop entries used },
