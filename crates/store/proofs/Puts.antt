@@ -1,5 +1,5 @@
 -- What is found in a sparse store, and what a put leaves there. Assumes nothing.
-use Rattle.std.proofs.Common.{◌≡◌, ℕ, ◌+◌, ◌-◌, ◌<◌, ◌≤◌, Bool, true, false, cond, List, ◌∷◌, ◌++◌, length, get_or, take, drop, set, nat_lt, ℤ, pos, negsuc, Ok, Err, Result, sym, refl, ap, ◌∙◌, subst, inl, inr, arith, w32, SFits, of_z}
+use Rattle.std.proofs.Common.{◌≡◌, ℕ, ◌+◌, ◌-◌, ◌<◌, ◌≤◌, Bool, true, false, cond, List, ◌∷◌, ◌++◌, length, get_or, take, drop, set, nat_lt, ℤ, pos, negsuc, Ok, Err, Result, MatchResult, sym, refl, ap, ◌∙◌, subst, inl, inr, arith, w32, SFits, of_z}
 use Rattle.std.specs.List.{between}
 use Rattle.std.specs.List.Sorted.{IsSearchInRange, IsBinarySearchResult, IsNonDecreasingBy}
 use Rattle.std.specs.Ordering.{nat_cmp, ordering_index}
@@ -14,8 +14,7 @@ use Rattle.store.specs.declared.sparse.SparseStore.{SparseStore}
 use Rattle.store.specs.Entries.{unused, is_zero, used_from, entries_of, values_of}
 use Rattle.store.specs.Positions.{before, position_of}
 use Rattle.store.specs.Ascending.{normal, counted, rising}
-use Rattle.store.specs.NormalForm.{KeptFor, length_values, room_free, room_held, place_free, entry_held, put_none, put_insert, put_remove, put_over}
-use Rattle.store.specs.UsedEntries.{zero_is}
+use Rattle.store.specs.NormalForm.{KeptFor, length_values, room_free, room_held, place_free, entry_held, put_insert, put_remove, put_over}
 
 pub zero_from_bits : (v : ℤ) → SFits w32 v → of_z w32 v ≡ 0 → is_zero v ≡ true
 zero_from_bits (pos n) f e = eq-eqb n 0 e
@@ -124,7 +123,7 @@ module _ (s : SparseStore) (p : ℕ) (h : p < 64) where
     at_held : at ≡ before p es
     at_held = (ok_held (is_zero old) (before p es) at f).1
 
-    pub held_room : at < s.used
+    held_room : at < s.used
     held_room = room_held vs is_long p h es is_normal s.used is_counted at at_held is_held
 
     pub held_value : (d : Entry) → (get_or es at d).value ≡ old
@@ -147,16 +146,14 @@ module _ (s : SparseStore) (p : ℕ) (h : p < 64) where
     at_free : at ≡ before p es
     at_free = (err_free (is_zero old) (before p es) at f).1
 
-    pub free_room : (at ≤ s.used) × (s.used < 64)
+    free_room : (at ≤ s.used) × (s.used < 64)
     free_room = room_free vs is_long p h es is_normal s.used is_counted at at_free is_free
-
-    pub free_value : old ≡ pos 0
-    free_value = zero_is old is_free
-
-    pub kept_none : (v : ℤ) → is_zero v ≡ true → set vs p v ≡ vs
-    kept_none v y = put_none vs is_long p h es is_normal s.used is_counted at at_free v is_free y
 
     pub kept_insert : (v : ℤ) → is_zero v ≡ false → (fs : List Entry) → fs ≡ take at es ++ (record { place = p; value = v } ∷ (between at s.used es ++ drop (s.used + 1) es)) → KeptFor fs (s.used + 1) (set vs p v)
     kept_insert v y fs e =
         let P : List Entry → Type 0 = λ l. KeptFor l (s.used + 1) (set vs p v) in
         subst P (sym e) (put_insert vs is_long p h es is_normal s.used is_counted at at_free v is_free y)
+
+  pub room : (r : Result ℕ ℕ) → r ≡ position_of es p → MatchResult r (λ at. at < s.used) (λ at. (at ≤ s.used) × (s.used < 64))
+  room (Ok at) f = held_room at f
+  room (Err at) f = free_room at f

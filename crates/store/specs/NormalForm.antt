@@ -12,7 +12,7 @@ use Rattle.store.specs.Positions.{before}
 use Rattle.store.specs.Ascending.{ascend_used}
 use Rattle.store.specs.Kept.{Kept}
 use Rattle.store.specs.Moves.{inserted_part, removed_part, set_part}
-use Rattle.store.specs.UsedEntries.{zero_is, entry_none, entry_one, used_append, used_short, value_at_lem, before_lower, before_upper, head_above}
+use Rattle.store.specs.UsedEntries.{entry_none, entry_one, used_append, used_short, value_at_lem, before_lower, before_upper, head_above}
 
 pub length_values : (es : List Entry) → length (values_of es) ≡ 64
 unfolding values_of
@@ -147,9 +147,6 @@ module _ (vs : List ℤ) (n : length vs ≡ 64) (p : ℕ) (h : p < 64) where
     entry_held z d = ap (λ l. get_or l at d) (held z).1 ∙ get_or_at lower (record { place = p; value = old }) _ d at (sym at_is)
 
     module _ (v : ℤ) where
-      pub put_none : is_zero old ≡ true → is_zero v ≡ true → slice_set vs p v ≡ vs
-      put_none z y = ap (set vs p) (zero_is v y ∙ sym (zero_is old z)) ∙ same
-
       pub put_insert : is_zero old ≡ true → is_zero v ≡ false
           → KeptFor (take at es ++ (record { place = p; value = v } ∷ (between at used es ++ drop (used + 1) es))) (used + 1) (slice_set vs p v)
       put_insert z y =

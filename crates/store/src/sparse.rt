@@ -1,5 +1,5 @@
 // A store that keeps the values that are not zero.
-ghost use Rattle.std.specs.Prelude.{◌≡◌, ◌<◌, length};
+ghost use Rattle.std.specs.Prelude.{◌≡◌, ◌<◌, ◌≤◌, length, MatchResult};
 ghost use Rattle.std.proofs.Common.{arith};
 ghost use Rattle.store.specs.Entries.{values_of};
 ghost use Rattle.store.specs.Kept.{Kept, kept_prop};
@@ -28,7 +28,8 @@ impl SparseStore {
     // Where the entry of a place stands, or where it would belong.
     fn find(&self, place: u8) -> Result<usize, usize>
         requires { place < 64 }
-        ensures { result ≡ position_of self.now.entries place }
+        ensures place { result ≡ position_of self.now.entries place }
+        ensures room { MatchResult result (λ at. at < self.now.used) (λ at. (at ≤ self.now.used) × (self.now.used < 64)) }
     {
         self.entries[..self.used].binary_search_by_key(&place, |entry| entry.place)
     }
