@@ -1,2 +1,5 @@
+pub mod Moves
+pub mod Places
+pub mod Searches
 pub mod Puts
 pub mod Examples

@@ -1,6 +1,7 @@
 use Rattle.std.proofs.Common.{rules}
 use Rattle.std.proofs.lemmas.List.Sorted.{answers_always}
-use Rattle.store.proofs.Puts.{searched, room}
+use Rattle.store.proofs.Puts.{room}
+use Rattle.store.proofs.Searches.{searched}
 use Rattle.store.proofs.sparse.SparseStore.find.Goals as goal
 
 pub returns : goal.returns
