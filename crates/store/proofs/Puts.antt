@@ -1,7 +1,6 @@
 -- What a put leaves in a sparse store, by what was found there. Assumes nothing.
-use Rattle.std.proofs.Common.{◌≡◌, ℕ, ◌+◌, ◌-◌, ◌<◌, ◌≤◌, Bool, true, false, cond, List, ◌∷◌, ◌++◌, get_or, take, drop, set, ℤ, pos, negsuc, Ok, Err, Result, MatchResult, refl, ap, arith, w32, SFits, of_z}
+use Rattle.std.proofs.Common.{◌≡◌, ℕ, ◌+◌, ◌-◌, ◌<◌, ◌≤◌, Bool, true, false, cond, List, ◌∷◌, ◌++◌, get_or, take, drop, set, ℤ, pos, Ok, Err, Result, MatchResult, ap, rules, w32, SFits, of_z}
 use Rattle.std.specs.List.{between}
-use Rattle.std.proofs.lemmas.Bool.{eq-eqb, ne_eqb}
 use Rattle.store.specs.declared.entry.Entry.{Entry}
 use Rattle.store.specs.declared.sparse.SparseStore.{SparseStore}
 use Rattle.store.specs.Entries.{unused, is_zero, values_of}
@@ -10,20 +9,16 @@ use Rattle.store.specs.NormalForm.{KeptFor}
 use Rattle.store.proofs.Places.{room_free, room_held, entry_held, put_insert, put_remove, put_over}
 
 pub zero_from_bits : (v : ℤ) → SFits w32 v → of_z w32 v ≡ 0 → is_zero v ≡ true
-zero_from_bits (pos n) f e = eq-eqb n 0 e
-zero_from_bits (negsuc n) f e = absurd (omega (arith, f.sfits))
+zero_from_bits v f e = search rules
 
 pub other_from_bits : (v : ℤ) → SFits w32 v → (of_z w32 v ≡ 0 → ⊥) → is_zero v ≡ false
-other_from_bits (pos n) f e = ne_eqb n 0 e
-other_from_bits (negsuc n) f e = refl
+other_from_bits v f e = search rules
 
 ok_held : (z : Bool) (b at : ℕ) → ◌≡◌ {A = Result ℕ ℕ} (Ok at) (cond z (Err b) (Ok b)) → (z ≡ false) × (at ≡ b)
-ok_held true b at e = absurd (let z : ◌≡◌ {A = ℕ} 0 1 = cc in omega arith)
-ok_held false b at e = (refl, cc)
+ok_held z b at e = search rules
 
 err_free : (z : Bool) (b at : ℕ) → ◌≡◌ {A = Result ℕ ℕ} (Err at) (cond z (Err b) (Ok b)) → (z ≡ true) × (at ≡ b)
-err_free true b at e = (refl, cc)
-err_free false b at e = absurd (let z : ◌≡◌ {A = ℕ} 0 1 = cc in omega arith)
+err_free z b at e = search rules
 
 module _ (s : SparseStore) (p : ℕ) (h : p < 64) where
   abbrev es : List Entry

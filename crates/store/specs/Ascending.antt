@@ -1,10 +1,10 @@
 -- Entries that ascend are the used entries of the values that they give, and the other way round. Assumes nothing.
 use Rattle.std.specs.Prelude.{◌≡◌, ℕ, zero, suc, ◌+◌, ◌-◌, ◌<◌, ◌≤◌, true, false, List, [], ◌∷◌, ◌++◌, map, length, get_or, take, replicate, ℤ, pos}
-use Rattle.std.proofs.Common.{inl, inr, sym, ap₂, ◌∙◌, arith}
+use Rattle.std.proofs.Common.{inl, inr, sym, ap₂, ◌∙◌, arith, rules}
 use Rattle.std.proofs.Math.Path.{refl, ap}
 use Rattle.std.specs.List.{range_with_len}
 use Rattle.std.proofs.lemmas.List.{take-append-drop, length-take-le}
-use Rattle.std.proofs.lemmas.Bool.{and_parts, and_from, leb-true, le-leb, ltb-true, lt-ltb, eq-eqb, ne_eqb, not-true, not_from_false, cases_lt}
+use Rattle.std.proofs.lemmas.Bool.{eq-eqb, ne_eqb, cases_lt}
 use Rattle.store.specs.declared.entry.Entry.{Entry}
 use Rattle.store.specs.Entries.{unused, is_zero, entry_of, used_from, entries_of, value_at, values_of, ascend_from}
 use Rattle.store.specs.Kept.{Kept}
@@ -18,16 +18,11 @@ record Ascends (p : ℕ) (e : Entry) (es : List Entry) : Type 0 where
 
 parts : (p : ℕ) (e : Entry) (es : List Entry) → ascend_from p (e ∷ es) ≡ true → Ascends p e es
 unfolding ascend_from
-parts p e es h =
-    let a = and_parts _ _ h in
-    let b = and_parts _ _ a.1 in
-    let c = and_parts _ _ b.1 in
-    record { above = leb-true p e.place a.0; below = ltb-true e.place 64 b.0; other = not-true (is_zero e.value) c.0; rest = c.1 }
+parts p e es h = search rules
 
 ascend_cons : (p : ℕ) (e : Entry) (es : List Entry) → p ≤ e.place → e.place < 64 → is_zero e.value ≡ false → ascend_from (e.place + 1) es ≡ true → ascend_from p (e ∷ es) ≡ true
 unfolding ascend_from
-ascend_cons p e es a b o r =
-    and_from _ _ (le-leb p e.place a) (and_from _ _ (lt-ltb e.place 64 b) (and_from _ _ (not_from_false (is_zero e.value) o) r))
+ascend_cons p e es a b o r = search rules
 
 lowered : (p q : ℕ) (es : List Entry) → p ≤ q → ascend_from q es ≡ true → ascend_from p es ≡ true
 unfolding ascend_from
@@ -82,8 +77,8 @@ used_given (suc m) q k (e ∷ es) n h f g =
 
 -- The places of entries that ascend.
 above : (q : ℕ) (es : List Entry) (i : ℕ) (d : Entry) → ascend_from q es ≡ true → i < length es → q ≤ (get_or es i d).place
-above q [] i d h l = absurd (omega arith)
-above q (e ∷ es) zero d h l = (parts q e es h).above
+above q [] i d h l = search rules
+above q (e ∷ es) zero d h l = search (rules, parts)
 above q (e ∷ es) (suc i) d h l = let a = parts q e es h in omega (arith, above (e.place + 1) es i d a.rest (omega arith), a.above)
 
 pub rising : (q : ℕ) (es : List Entry) (i j : ℕ) (d : Entry) → ascend_from q es ≡ true → i < j → j < length es → (get_or es i d).place < (get_or es j d).place

@@ -1,4 +1,4 @@
--- The entries of 64 values: they give the values back, and a put changes them by one entry. Assumes nothing.
+-- The entries of 64 values: they give the values back, and a store keeps them. Assumes nothing.
 use Rattle.std.specs.Prelude.{◌≡◌, ℕ, ◌-◌, ◌<◌, List, length, take, drop, replicate, ℤ, pos, slice_index_or}
 use Rattle.std.proofs.Common.{sym, ◌∙◌}
 use Rattle.std.proofs.Math.Path.{ap}

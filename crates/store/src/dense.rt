@@ -11,7 +11,7 @@ use crate::{PLACES, Store};
 /// The dense store: the 64 values in order.
 #[derive(Drop)]
 pub struct DenseStore {
-    cells: [i32; 64],
+    cells: [i32; PLACES],
     ghost full: { length cells ≡ 64 },
 }
 
@@ -31,7 +31,7 @@ impl Store for DenseStore {
     ghost fixed = { λ vs ws v w. omega (arith, length_dense vs, length_dense ws) };
 
     fn new() -> DenseStore {
-        DenseStore { cells: [0; 64] }
+        DenseStore { cells: [0; PLACES] }
     }
 
     fn put(&mut self, place: usize, value: i32) -> bool {

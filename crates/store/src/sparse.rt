@@ -19,7 +19,7 @@ use crate::{PLACES, Store};
 #[derive(Drop)]
 pub struct SparseStore {
     // An array and a count: no heap, and the image shows unused entries too, so each has a fixed content.
-    entries: [Entry; 64],
+    entries: [Entry; PLACES],
     used: usize,
     ghost kept: { Kept entries used } by { kept_prop entries used },
 }
@@ -56,7 +56,7 @@ impl Store for SparseStore {
 
     fn new() -> SparseStore {
         SparseStore {
-            entries: [Entry::UNUSED; 64],
+            entries: [Entry::UNUSED; PLACES],
             used: 0,
         }
     }
