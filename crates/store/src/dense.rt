@@ -3,7 +3,7 @@ ghost use Rattle.std.specs.Prelude.{◌≡◌, length};
 ghost use Rattle.store.specs.Images.{dense_image};
 ghost use mathlib.Core.HLevel.{is_prop→PathP};
 ghost use Rattle.std.proofs.Math.Nat.{ℕ_set};
-ghost use Rattle.std.proofs.Common.{arith, rules};
+ghost use Rattle.std.proofs.Common.{arith};
 ghost use Rattle.store.specs.ImagesLemmas.{length_dense};
 
 use crate::{PLACES, Store};
@@ -20,7 +20,7 @@ impl Store for DenseStore {
 
     ghost image = { dense_image };
 
-    ghost long = { first_of (Prim.search rules, Prim.grind (arith, Self.row.coded.inj)) };
+    ghost long = { λ s. s.full };
 
     // A path between two stores goes through the cells; the ghost field has one proof at most.
     ghost same = { λ s t e i. record {

@@ -1,4 +1,4 @@
-// How entries go into a list of them, and out of it.
+// How entries go into a list of them, and out of it. Apart from the store, since what it keeps does not hold in between.
 ghost use Rattle.std.specs.Prelude.{◌≡◌, ◌+◌, ◌-◌, ◌<◌, ◌≤◌, ◌∷◌, ◌++◌, length, take, drop};
 ghost use Rattle.std.specs.List.{between};
 ghost use Rattle.store.specs.Entries.{unused};

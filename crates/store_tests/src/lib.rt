@@ -78,6 +78,7 @@ mod tests {
         image
     }
 
+    // A test for each store: a closure that gives an array of either size has no proof yet.
     #[test]
     fn dense_after_many_puts(rt: HostRuntime) {
         let mut store = DenseStore::new();
