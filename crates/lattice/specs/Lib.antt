@@ -1,5 +1,4 @@
 pub mod Lattice
 pub mod Chain
 pub mod ReaderSets
-pub mod Ands
-pub mod ReaderSetsLatticeLemmas
+pub mod ReaderSetsLaws

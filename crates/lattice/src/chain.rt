@@ -5,7 +5,7 @@ ghost use Rattle.std.proofs.Common.{rules};
 use crate::Lattice;
 
 /// The levels 0 to `top`, ordered as numbers.
-#[derive(Clone, Copy)]
+#[derive(Clone, Copy, Debug, PartialEq, Eq)]
 pub struct Chain {
     pub top: u8,
 }
@@ -38,6 +38,6 @@ impl Lattice for Chain {
     }
 
     fn highest(&self) -> u32 {
-        self.top as u32
+        self.top.into()
     }
 }

@@ -1,3 +1,5 @@
-pub mod Positions
+pub mod Moves
+pub mod Places
+pub mod Searches
 pub mod Puts
 pub mod Examples

@@ -1,12 +1,13 @@
 -- Entries that ascend are the used entries of the values that they give, and the other way round. Assumes nothing.
-use Rattle.std.specs.Prelude.{◌≡◌, ℕ, zero, suc, ◌+◌, ◌-◌, ◌<◌, ◌≤◌, true, false, List, [], ◌∷◌, ◌++◌, map, length, take, drop, replicate, ℤ, pos}
-use Rattle.std.proofs.Common.{inl, inr, sym, ap₂, ◌∙◌, arith}
+use Rattle.std.specs.Prelude.{◌≡◌, ℕ, zero, suc, ◌+◌, ◌-◌, ◌<◌, ◌≤◌, true, false, List, [], ◌∷◌, ◌++◌, map, length, get_or, take, replicate, ℤ, pos}
+use Rattle.std.proofs.Common.{inl, inr, sym, ap₂, ◌∙◌, arith, rules}
 use Rattle.std.proofs.Math.Path.{refl, ap}
 use Rattle.std.specs.List.{range_with_len}
 use Rattle.std.proofs.lemmas.List.{take-append-drop, length-take-le}
-use Rattle.std.proofs.lemmas.Bool.{and_parts, and_from, leb-true, le-leb, ltb-true, lt-ltb, eq-eqb, ne_eqb, not-true, not_from_false, cases_lt}
+use Rattle.std.proofs.lemmas.Bool.{eq-eqb, ne_eqb, cases_lt}
 use Rattle.store.specs.declared.entry.Entry.{Entry}
 use Rattle.store.specs.Entries.{unused, is_zero, entry_of, used_from, entries_of, value_at, values_of, ascend_from}
+use Rattle.store.specs.Kept.{Kept}
 use Rattle.store.specs.UsedEntries.{entry_none, entry_one, entry_front, value_none}
 
 record Ascends (p : ℕ) (e : Entry) (es : List Entry) : Type 0 where
@@ -17,16 +18,11 @@ record Ascends (p : ℕ) (e : Entry) (es : List Entry) : Type 0 where
 
 parts : (p : ℕ) (e : Entry) (es : List Entry) → ascend_from p (e ∷ es) ≡ true → Ascends p e es
 unfolding ascend_from
-parts p e es h =
-    let a = and_parts _ _ h in
-    let b = and_parts _ _ a.1 in
-    let c = and_parts _ _ b.1 in
-    record { above = leb-true p e.place a.0; below = ltb-true e.place 64 b.0; other = not-true (is_zero e.value) c.0; rest = c.1 }
+parts p e es h = search rules
 
 ascend_cons : (p : ℕ) (e : Entry) (es : List Entry) → p ≤ e.place → e.place < 64 → is_zero e.value ≡ false → ascend_from (e.place + 1) es ≡ true → ascend_from p (e ∷ es) ≡ true
 unfolding ascend_from
-ascend_cons p e es a b o r =
-    and_from _ _ (le-leb p e.place a) (and_from _ _ (lt-ltb e.place 64 b) (and_from _ _ (not_from_false (is_zero e.value) o) r))
+ascend_cons p e es a b o r = search rules
 
 lowered : (p q : ℕ) (es : List Entry) → p ≤ q → ascend_from q es ≡ true → ascend_from p es ≡ true
 unfolding ascend_from
@@ -79,18 +75,29 @@ used_given (suc m) q k (e ∷ es) n h f g =
           ∙ ap (λ l. e ∷ l) (used_given m (q + 1) (omega arith) es n r f (λ p l b. g p (omega arith) b ∙ rw (ne_eqb e.place p (λ z. omega arith)) refl))
     ]
 
+-- The places of entries that ascend.
+above : (q : ℕ) (es : List Entry) (i : ℕ) (d : Entry) → ascend_from q es ≡ true → i < length es → q ≤ (get_or es i d).place
+above q [] i d h l = search rules
+above q (e ∷ es) zero d h l = search (rules, parts)
+above q (e ∷ es) (suc i) d h l = let a = parts q e es h in omega (arith, above (e.place + 1) es i d a.rest (omega arith), a.above)
+
+pub rising : (q : ℕ) (es : List Entry) (i j : ℕ) (d : Entry) → ascend_from q es ≡ true → i < j → j < length es → (get_or es i d).place < (get_or es j d).place
+rising q [] i j d h k l = absurd (omega arith)
+rising q (e ∷ es) i zero d h k l = absurd (omega arith)
+rising q (e ∷ es) zero (suc j) d h k l = let a = parts q e es h in omega (arith, above (e.place + 1) es j d a.rest (omega arith))
+rising q (e ∷ es) (suc i) (suc j) d h k l = let a = parts q e es h in rising (e.place + 1) es i j d a.rest (omega arith) (omega arith)
+
 -- Entries of which the first ascend and the others are unused are the entries of the values that they give.
-module _ (es : List Entry) (used : ℕ) (full : length es ≡ 64) (room : used ≤ 64)
-    (ordered : ascend_from 0 (take used es) ≡ true) (blank : drop used es ≡ replicate (64 - used) unused) where
+module _ (es : List Entry) (used : ℕ) (k : Kept es used) where
   split : es ≡ take used es ++ replicate (64 - used) unused
-  split = sym (take-append-drop used es) ∙ ap (λ l. take used es ++ l) blank
+  split = sym (take-append-drop used es) ∙ ap (λ l. take used es ++ l) k.blank
 
   first : used_from 0 (values_of es) ≡ take used es
   unfolding values_of
-  first = used_given 64 0 refl (take used es) (64 - used) ordered (value_at es) (λ p l b. ap (λ x. value_at x p) split)
+  first = used_given 64 0 refl (take used es) (64 - used) k.ordered (value_at es) (λ p l b. ap (λ x. value_at x p) split)
 
   long : length (take used es) ≡ used
-  long = length-take-le used es (omega arith)
+  long = let full = k.full in let room = k.room in length-take-le used es (omega arith)
 
   pub counted : used ≡ length (used_from 0 (values_of es))
   counted = sym (ap length first ∙ long)
@@ -98,3 +105,11 @@ module _ (es : List Entry) (used : ℕ) (full : length es ≡ 64) (room : used �
   pub normal : es ≡ entries_of (values_of es)
   unfolding entries_of
   normal = split ∙ ap (λ n. take used es ++ replicate (64 - n) unused) (sym long) ∙ ap (λ l. l ++ replicate (64 - length l) unused) (sym first)
+
+-- Equal values come of equal entries, and of as many.
+module _ {es fs : List Entry} {m n : ℕ} (k : Kept es m) (l : Kept fs n) (e : values_of es ≡ values_of fs) where
+  pub same_entries : es ≡ fs
+  same_entries = normal es m k ∙ ap entries_of e ∙ sym (normal fs n l)
+
+  pub same_used : m ≡ n
+  same_used = counted es m k ∙ ap (λ vs. length (used_from 0 vs)) e ∙ sym (counted fs n l)

@@ -1,8 +1,9 @@
 -- A list that is joined from blocks of one length: how long it is, and what stands where. Assumes nothing.
-use Rattle.std.specs.Prelude.{◌≡◌, ℕ, zero, suc, ◌+◌, ◌*◌, ◌<◌, List, [], ◌∷◌, length, slice_index, slice_index_or}
-use Rattle.std.proofs.Common.{◌∙◌, mul-suc, arith, length-append}
+use Rattle.std.specs.Prelude.{◌≡◌, ℕ, ◌+◌, ◌*◌, ◌/◌, ◌%◌, ◌<◌, List, [], ◌∷◌, length, take, slice_index, slice_index_or}
+use Rattle.std.proofs.Common.{sym, ap, ◌∙◌, mul-suc, arith, length-append}
 use Rattle.std.specs.List.{flat_map}
-use Rattle.std.proofs.lemmas.List.{get_or_append_left, get_or-append-add}
+use Rattle.std.proofs.lemmas.List.{length-take-le}
+use Rattle.std.proofs.lemmas.List.Concat.{get_or-flat_map}
 
 module _ {X : Type 0} (f : X → List ℕ) (k : ℕ) (block : (x : X) → length (f x) ≡ k) where
   pub length_joined : (xs : List X) → length (flat_map f xs) ≡ k * length xs
@@ -11,14 +12,9 @@ module _ {X : Type 0} (f : X → List ℕ) (k : ℕ) (block : (x : X) → length
       let m = mul-suc k (length xs) in
       omega (arith, length-append (f x) (flat_map f xs), block x, length_joined xs)
 
-  pub get_or_joined : (xs : List X) (q r : ℕ) (d : X) → q < length xs → r < k → slice_index (flat_map f xs) (k * q + r) ≡ slice_index (f (slice_index_or xs q d)) r
-  get_or_joined [] q r d h j = absurd (omega arith)
-  get_or_joined (x ∷ xs) zero r d h j =
-      let b = block x in
-      let e : k * zero + r ≡ r = omega arith in
-      rw e (get_or_append_left (f x) (flat_map f xs) 0 r (omega arith))
-  get_or_joined (x ∷ xs) (suc q) r d h j =
-      let b = block x in
-      let m = mul-suc k q in
-      let e : k * suc q + r ≡ length (f x) + (k * q + r) = omega arith in
-      rw e (get_or-append-add (f x) (flat_map f xs) (k * q + r) 0 ∙ get_or_joined xs q r d (omega arith) j)
+  pub get_or_block : (xs : List X) (at : ℕ) (d : X) → 0 < k → at / k < length xs → slice_index (flat_map f xs) at ≡ slice_index (f (slice_index_or xs (at / k) d)) (at % k)
+  get_or_block xs at d z h =
+      let b = block (slice_index_or xs (at / k) d) in
+      let l = length_joined (take (at / k) xs) ∙ ap (λ n. k * n) (length-take-le (at / k) xs (omega arith)) in
+      let e : length (flat_map f (take (at / k) xs)) + at % k ≡ at = omega arith in
+      ap (slice_index (flat_map f xs)) (sym e) ∙ get_or-flat_map f xs (at / k) (at % k) d 0 h (omega arith)

@@ -7,5 +7,4 @@ pub mod Blocks
 pub mod NormalForm
 pub mod Ascending
 pub mod UsedEntries
-pub mod Moves
-pub mod StoreSparseLemmas
+pub mod Kept

@@ -1,21 +1,21 @@
 -- The used entries of values: how many there are, what they give back, and where a place stands among them. Assumes nothing.
-use Rattle.std.specs.Prelude.{◌≡◌, ℕ, zero, suc, ◌+◌, ◌<◌, ◌≤◌, true, false, cond, List, [], ◌∷◌, ◌++◌, length, get_or, replicate, ℤ, pos, negsuc, slice_index_or, refl}
-use Rattle.std.proofs.Common.{inl, inr, sym, ap, subst, ◌∙◌, arith}
+use Rattle.std.specs.Prelude.{◌≡◌, ℕ, zero, suc, ◌+◌, ◌<◌, ◌≤◌, true, false, List, [], ◌∷◌, ◌++◌, length, get_or, replicate, ℤ, pos, negsuc, slice_index_or, refl}
+use Rattle.std.proofs.Common.{inl, inr, sym, ap, subst, ◌∙◌, arith, rules}
 use Rattle.std.proofs.lemmas.List.{append_assoc, length-append}
-use Rattle.std.proofs.lemmas.Bool.{lt-ltb, le-ltb, eq-eqb, ne_eqb, eqb-true, cases_Bool, false≢true, cond-true, cond-false}
+use Rattle.std.proofs.lemmas.Bool.{lt-ltb, le-ltb, eq-eqb, ne_eqb, cases_Bool}
 use Rattle.store.specs.declared.entry.Entry.{Entry}
 use Rattle.store.specs.Entries.{unused, is_zero, entry_of, used_from, value_at}
 use Rattle.store.specs.Positions.{before}
 
 pub zero_is : (v : ℤ) → is_zero v ≡ true → v ≡ pos 0
-zero_is (pos n) h = ap pos (eqb-true n 0 h)
-zero_is (negsuc n) h = absurd (false≢true h)
+zero_is (pos n) h = search rules
+zero_is (negsuc n) h = search rules
 
 pub entry_none : (p : ℕ) (v : ℤ) → is_zero v ≡ true → entry_of p v ≡ []
-entry_none p v h = cond-true (is_zero v) _ _ h
+entry_none p v h = search rules
 
 pub entry_one : (p : ℕ) (v : ℤ) → is_zero v ≡ false → entry_of p v ≡ record { place = p; value = v } ∷ []
-entry_one p v h = cond-false (is_zero v) _ _ h
+entry_one p v h = search rules
 
 -- in front of any list
 pub entry_front : {Y : Type 0} (F : List Entry → Y) (y : Y) (p : ℕ) (v : ℤ) (es : List Entry)
@@ -31,7 +31,7 @@ used_append q (x ∷ xs) ys =
     ap (λ l. entry_of q x ++ l) (used_append (q + 1) xs ys ∙ ap (λ n. used_from (q + 1) xs ++ used_from n ys) e) ∙ sym (append_assoc (entry_of q x) (used_from (q + 1) xs) _)
 
 entry_short : (p : ℕ) (v : ℤ) → length (entry_of p v) ≤ 1
-entry_short p v = elim (is_zero v) as (λ b. length {A = Entry} (cond b [] (record { place = p; value = v } ∷ [])) ≤ 1) [ true ↦ omega arith | false ↦ omega arith ]
+entry_short p v = search rules
 
 pub used_short : (q : ℕ) (vs : List ℤ) → length (used_from q vs) ≤ length vs
 unfolding used_from

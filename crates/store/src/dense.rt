@@ -3,7 +3,7 @@ ghost use Rattle.std.specs.Prelude.{◌≡◌, length};
 ghost use Rattle.store.specs.Images.{dense_image};
 ghost use mathlib.Core.HLevel.{is_prop→PathP};
 ghost use Rattle.std.proofs.Math.Nat.{ℕ_set};
-ghost use Rattle.std.proofs.Common.{arith, rules};
+ghost use Rattle.std.proofs.Common.{arith};
 ghost use Rattle.store.specs.ImagesLemmas.{length_dense};
 
 use crate::{PLACES, Store};
@@ -11,7 +11,7 @@ use crate::{PLACES, Store};
 /// The dense store: the 64 values in order.
 #[derive(Drop)]
 pub struct DenseStore {
-    cells: [i32; 64],
+    cells: [i32; PLACES],
     ghost full: { length cells ≡ 64 },
 }
 
@@ -20,7 +20,7 @@ impl Store for DenseStore {
 
     ghost image = { dense_image };
 
-    ghost long = { first_of (Prim.search rules, Prim.grind (arith, Self.row.coded.inj)) };
+    ghost long = { λ s. s.full };
 
     // A path between two stores goes through the cells; the ghost field has one proof at most.
     ghost same = { λ s t e i. record {
@@ -31,7 +31,7 @@ impl Store for DenseStore {
     ghost fixed = { λ vs ws v w. omega (arith, length_dense vs, length_dense ws) };
 
     fn new() -> DenseStore {
-        DenseStore { cells: [0; 64] }
+        DenseStore { cells: [0; PLACES] }
     }
 
     fn put(&mut self, place: usize, value: i32) -> bool {
@@ -44,7 +44,7 @@ impl Store for DenseStore {
     }
 
     fn get(&self, place: usize) -> i32 {
-        if place < PLACES { self.cells[place] } else { 0 }
+        self.cells.get(place).copied().unwrap_or(0)
     }
 
     fn image_len(&self) -> usize {
@@ -52,10 +52,9 @@ impl Store for DenseStore {
     }
 
     fn image_byte(&self, at: usize) -> u8 {
-        if at / 4 < PLACES {
-            self.cells[at / 4].to_be_bytes()[at % 4]
-        } else {
-            0
+        match self.cells.get(at / 4) {
+            Some(cell) => cell.to_be_bytes()[at % 4],
+            None => 0,
         }
     }
 }

@@ -1,28 +1,9 @@
-// Lists of entries that ascend by place: where a place stands or belongs, and how entries go in and out.
+// How entries go into a list of them, and out of it. Apart from the store, since what it keeps does not hold in between.
 ghost use Rattle.std.specs.Prelude.{◌≡◌, ◌+◌, ◌-◌, ◌<◌, ◌≤◌, ◌∷◌, ◌++◌, length, take, drop};
 ghost use Rattle.std.specs.List.{between};
 ghost use Rattle.store.specs.Entries.{unused};
-ghost use Rattle.store.specs.Positions.{before};
 
 use crate::entry::Entry;
-
-// An entry that keeps no value.
-pub(crate) const UNUSED: Entry = Entry {
-    place: 255,
-    value: 0,
-};
-
-// How many entries stand before the first whose place is not below this one.
-pub(crate) fn position(entries: &[Entry], place: u8) -> usize
-    ensures { result ≡ before place entries.now }
-{
-    for (at, entry) in entries.iter().enumerate() {
-        if entry.place >= place {
-            return at;
-        }
-    }
-    entries.len()
-}
 
 // Puts an entry at a position, moving the used entries from there on up by one.
 pub(crate) fn insert(entries: &mut [Entry], used: usize, at: usize, new: Entry)
@@ -39,5 +20,5 @@ pub(crate) fn remove(entries: &mut [Entry], used: usize, at: usize)
     ensures { entries.new ≡ take at entries.old ++ (between (at + 1) used entries.old ++ (unused ∷ drop used entries.old)) }
 {
     entries.copy_within(at + 1..used, at);
-    entries[used - 1] = UNUSED;
+    entries[used - 1] = Entry::UNUSED;
 }

@@ -10,11 +10,19 @@ pub(crate) struct Entry {
 }
 
 impl Entry {
-    // The place, and then the value, most significant byte first.
-    pub(crate) fn bytes(self) -> [u8; 5]
-        ensures { result ≡ entry_bytes self }
-    {
-        let [a, b, c, d] = self.value.to_be_bytes();
-        [self.place, a, b, c, d]
+    // Keeps no value.
+    pub(crate) const UNUSED: Entry = Entry {
+        place: 255,
+        value: 0,
+    };
+}
+
+// The place, and then the value, most significant byte first.
+impl From<Entry> for [u8; 5] {
+    ghost from_gives = { λ entry bytes. bytes ≡ entry_bytes entry };
+
+    fn from(entry: Entry) -> [u8; 5] {
+        let [a, b, c, d] = entry.value.to_be_bytes();
+        [entry.place, a, b, c, d]
     }
 }

@@ -27,6 +27,7 @@ pub trait Store: Sized + Drop {
         ensures { values result ≡ replicate 64 (pos 0) };
 
     /// Puts a value at a place and answers `true`; at place 64 or more it changes nothing and answers `false`.
+    // A bool: there is one refusal, and nothing to say of it.
     fn put(&mut self, place: usize, value: i32) -> bool
         ensures values { values self.new ≡ slice_set (values self.old) place value }
         ensures answer { result ≡ nat_lt place 64 };
@@ -40,6 +41,7 @@ pub trait Store: Sized + Drop {
         ensures { result ≡ length (image (values self.now)) };
 
     /// The image's byte at a position, or 0 beyond the image.
+    // No Option: who asks reads as many bytes as `image_len` says.
     fn image_byte(&self, at: usize) -> u8
         ensures { result ≡ slice_index (image (values self.now)) at };
 

@@ -1,47 +1,37 @@
 // A store that keeps the values that are not zero.
-ghost use Rattle.std.specs.Prelude.{◌≡◌, ◌-◌, ◌<◌, ◌≤◌, true, length, take, drop, replicate};
-ghost use Rattle.std.proofs.Math.Bool.{Bool-set};
-ghost use Rattle.std.proofs.Common.{sym, ap, ◌∙◌, arith};
-ghost use Rattle.store.specs.Entries.{unused, values_of, ascend_from, used_from, entries_of};
+ghost use Rattle.std.specs.Prelude.{◌≡◌, ◌<◌, ◌≤◌, length, MatchResult};
+ghost use Rattle.std.proofs.Common.{arith};
+ghost use Rattle.store.specs.Entries.{values_of};
+ghost use Rattle.store.specs.Kept.{Kept, kept_prop};
 ghost use Rattle.store.specs.Examples.{example_values, example_image};
 ghost use Rattle.store.specs.Images.{sparse_image};
 ghost use Rattle.store.specs.Positions.{position_of};
 ghost use Rattle.store.specs.NormalForm.{length_values};
 ghost use mathlib.Core.HLevel.{is_prop→PathP};
-ghost use mathlib.Core.List.{is_set};
-ghost use Rattle.std.proofs.Math.Bridge.{le_prop};
-ghost use Rattle.std.proofs.Math.Nat.{ℕ_set};
-ghost use Rattle.store.specs.Ascending.{normal, counted};
-ghost use Rattle.store.specs.StoreSparseLemmas.{entry_set};
+ghost use Rattle.store.specs.Ascending.{same_entries, same_used};
 ghost use Rattle.store.specs.ImagesLemmas.{length_sparse};
 
-use crate::entries::{UNUSED, insert, position, remove};
+use crate::entries::{insert, remove};
 use crate::entry::Entry;
 use crate::{PLACES, Store};
 
 /// The sparse store: an entry for each value that is not zero, in the order of the places, and then unused entries.
 #[derive(Drop)]
 pub struct SparseStore {
-    entries: [Entry; 64],
+    // An array and a count: no heap, and the image shows unused entries too, so each has a fixed content.
+    entries: [Entry; PLACES],
     used: usize,
-    ghost full: { length entries ≡ 64 },
-    ghost room: { used ≤ 64 },
-    ghost ordered: { ascend_from 0 (take used entries) ≡ true },
-    ghost blank: { drop used entries ≡ replicate (64 - used) unused },
+    ghost kept: { Kept entries used } by { kept_prop entries used },
 }
 
 impl SparseStore {
     // Where the entry of a place stands, or where it would belong.
     fn find(&self, place: u8) -> Result<usize, usize>
         requires { place < 64 }
-        ensures { result ≡ position_of self.now.entries place }
+        ensures place { result ≡ position_of self.now.entries place }
+        ensures room { MatchResult result (λ at. at < self.now.used) (λ at. (at ≤ self.now.used) × (self.now.used < 64)) }
     {
-        let at = position(&self.entries, place);
-        if at < self.used && self.entries[at].place == place {
-            Ok(at)
-        } else {
-            Err(at)
-        }
+        self.entries[..self.used].binary_search_by_key(&place, |entry| entry.place)
     }
 }
 
@@ -52,29 +42,21 @@ impl Store for SparseStore {
 
     ghost long = { λ s. length_values s.entries };
 
-    // Entries and count are worked out from the values, so that equal values give a path through both; each ghost field
-    // has one proof at most.
-    ghost same = { λ s t e.
-        let p : s.entries ≡ t.entries =
-        normal s.entries s.used s.full s.room s.ordered s.blank ∙ ap entries_of e
-        ∙ sym (normal t.entries t.used t.full t.room t.ordered t.blank) in
-        let u : s.used ≡ t.used =
-        counted s.entries s.used s.full s.room s.ordered s.blank ∙ ap (λ vs. length (used_from 0 vs)) e
-        ∙ sym (counted t.entries t.used t.full t.room t.ordered t.blank) in
-        λ i. record {
+    // Equal values give a path through entries and count, and what these keep has one proof at most.
+    ghost same = { λ s t e i.
+        let p = same_entries s.kept t.kept e in
+        let u = same_used s.kept t.kept e in
+        record {
           entries = p i;
           used = u i;
-          full = is_prop→PathP (λ j. length (p j) ≡ 64) (λ j. ℕ_set (length (p j)) 64) s.full t.full i;
-          room = is_prop→PathP (λ j. u j ≤ 64) (λ j. le_prop) s.room t.room i;
-          ordered = is_prop→PathP (λ j. ascend_from 0 (take (u j) (p j)) ≡ true) (λ j. Bool-set (ascend_from 0 (take (u j) (p j))) true) s.ordered t.ordered i;
-          blank = is_prop→PathP (λ j. drop (u j) (p j) ≡ replicate (64 - u j) unused) (λ j. is_set entry_set (drop (u j) (p j)) (replicate (64 - u j) unused)) s.blank t.blank i;
+          kept = is_prop→PathP (λ j. Kept (p j) (u j)) (λ j. kept_prop (p j) (u j)) s.kept t.kept i;
         } };
 
     ghost fixed = { λ vs ws v w. omega (arith, length_sparse vs v, length_sparse ws w) };
 
     fn new() -> SparseStore {
         SparseStore {
-            entries: [UNUSED; 64],
+            entries: [Entry::UNUSED; PLACES],
             used: 0,
         }
     }
@@ -117,10 +99,9 @@ impl Store for SparseStore {
     }
 
     fn image_byte(&self, at: usize) -> u8 {
-        if at / 5 < PLACES {
-            self.entries[at / 5].bytes()[at % 5]
-        } else {
-            0
+        match self.entries.get(at / 5) {
+            Some(entry) => <[u8; 5]>::from(*entry)[at % 5],
+            None => 0,
         }
     }
 }

@@ -19,7 +19,7 @@ mod tests {
     // A value that is zero at times, or the least or the greatest.
     fn value_of(seed: u32) -> i32 {
         match seed / 4096 % 8 {
-            0 | 1 | 2 => 0,
+            0..=2 => 0,
             3 => i32::MIN,
             4 => i32::MAX,
             5 => -1,
@@ -41,15 +41,15 @@ mod tests {
             let place = place_of(seed);
             let value = value_of(seed);
             assert_eq!(rt; store.put(place, value), place < 64);
-            if place < 64 {
-                table[place] = value;
+            if let Some(cell) = table.get_mut(place) {
+                *cell = value;
             }
         }
     }
 
     fn check_values<S: Store>(rt: &impl Abort, store: &S, table: &[i32; 64]) {
-        for place in 0..64 {
-            assert_eq!(rt; store.get(place), table[place]);
+        for (place, value) in table.iter().enumerate() {
+            assert_eq!(rt; store.get(place), *value);
         }
         assert_eq!(rt; store.get(64), 0);
         assert_eq!(rt; store.get(usize::MAX), 0);
@@ -64,47 +64,30 @@ mod tests {
         assert_eq!(rt; store.image_byte(usize::MAX), 0);
     }
 
-    fn dense_image(table: &[i32; 64]) -> [u8; 256] {
-        let mut image = [0; 256];
-        for place in 0..64 {
-            let [a, b, c, d] = table[place].to_be_bytes();
-            image[4 * place] = a;
-            image[4 * place + 1] = b;
-            image[4 * place + 2] = c;
-            image[4 * place + 3] = d;
+    fn dense_image(table: &[i32; 64]) -> [[u8; 4]; 64] {
+        table.map(|value| value.to_be_bytes())
+    }
+
+    fn sparse_image(table: &[i32; 64]) -> [[u8; 5]; 64] {
+        let mut image = [[255, 0, 0, 0, 0]; 64];
+        let used = (0..64).zip(table).filter(|(_, value)| **value != 0);
+        for (entry, (place, value)) in image.iter_mut().zip(used) {
+            let [a, b, c, d] = value.to_be_bytes();
+            *entry = [place, a, b, c, d];
         }
         image
     }
 
-    fn sparse_image(table: &[i32; 64]) -> [u8; 320] {
-        let mut image = [0; 320];
-        for entry in 0..64 {
-            image[5 * entry] = 255;
-        }
-        let mut entry = 0;
-        for place in 0..64 {
-            if table[place] != 0 && entry < 64 {
-                let [a, b, c, d] = table[place].to_be_bytes();
-                image[5 * entry] = place as u8;
-                image[5 * entry + 1] = a;
-                image[5 * entry + 2] = b;
-                image[5 * entry + 3] = c;
-                image[5 * entry + 4] = d;
-                entry += 1;
-            }
-        }
-        image
-    }
-
+    // A test for each store: a closure that gives an array of either size has no proof yet.
     #[test]
     fn dense_after_many_puts(rt: HostRuntime) {
         let mut store = DenseStore::new();
         let mut table = [0; 64];
-        check_image(&rt, &store, &dense_image(&table));
+        check_image(&rt, &store, dense_image(&table).as_flattened());
         for round in 0..40 {
             fill(&rt, &mut store, &mut table, round, 25);
             check_values(&rt, &store, &table);
-            check_image(&rt, &store, &dense_image(&table));
+            check_image(&rt, &store, dense_image(&table).as_flattened());
         }
     }
 
@@ -112,11 +95,11 @@ mod tests {
     fn sparse_after_many_puts(rt: HostRuntime) {
         let mut store = SparseStore::new();
         let mut table = [0; 64];
-        check_image(&rt, &store, &sparse_image(&table));
+        check_image(&rt, &store, sparse_image(&table).as_flattened());
         for round in 0..40 {
             fill(&rt, &mut store, &mut table, round, 25);
             check_values(&rt, &store, &table);
-            check_image(&rt, &store, &sparse_image(&table));
+            check_image(&rt, &store, sparse_image(&table).as_flattened());
         }
     }
 
@@ -125,15 +108,16 @@ mod tests {
     fn sparse_full_and_empty(rt: HostRuntime) {
         let mut store = SparseStore::new();
         let mut table = [0; 64];
+        // By number: each turn compares the whole table.
         for place in (0..64).rev() {
             table[place] = -7;
             assert!(rt; store.put(place, -7));
-            check_image(&rt, &store, &sparse_image(&table));
+            check_image(&rt, &store, sparse_image(&table).as_flattened());
         }
         for place in 0..64 {
             table[place] = 0;
             assert!(rt; store.put(place, 0));
-            check_image(&rt, &store, &sparse_image(&table));
+            check_image(&rt, &store, sparse_image(&table).as_flattened());
         }
     }
 
@@ -146,7 +130,7 @@ mod tests {
         assert_eq!(rt; store.image_byte(4), 255);
         assert_eq!(rt; store.image_byte(5), 255);
         assert_eq!(rt; store.image_byte(6), 0);
-        check_image(&rt, &store, &sparse_image(&table));
+        check_image(&rt, &store, sparse_image(&table).as_flattened());
     }
 
     #[test]

@@ -1,5 +1,5 @@
 use Rattle.std.proofs.Common.{set, ap, ◌∙◌}
-use Rattle.store.specs.Moves.{moved_up}
+use Rattle.store.proofs.Moves.{moved_up}
 use Rattle.store.proofs.entries.insert.Goals as goal
 
 pub returns : goal.returns

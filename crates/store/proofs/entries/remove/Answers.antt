@@ -1,6 +1,6 @@
 use Rattle.std.proofs.Common.{◌-◌, set, ap, ◌∙◌}
 use Rattle.store.specs.Entries.{unused}
-use Rattle.store.specs.Moves.{moved_down}
+use Rattle.store.proofs.Moves.{moved_down}
 use Rattle.store.proofs.entries.remove.Goals as goal
 
 pub returns : goal.returns

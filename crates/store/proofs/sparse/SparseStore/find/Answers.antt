@@ -1,16 +1,15 @@
-use Rattle.std.proofs.Common.{arith}
-use Rattle.store.proofs.Puts.{finds, misses}
+use Rattle.std.proofs.Common.{rules}
+use Rattle.std.proofs.lemmas.List.Sorted.{answers_always}
+use Rattle.store.proofs.Puts.{room}
+use Rattle.store.proofs.Searches.{searched}
 use Rattle.store.proofs.sparse.SparseStore.find.Goals as goal
-use Rattle.store.proofs.sparse.SparseStore.find.Goals.{else-at-self-via-then-at-self+else-self-at, else-at-self-via-else-at-self}
 
-pub returns-then-self-at : goal.returns-then-self-at
-returns-then-self-at c =
-    finds c.args.self.now c.args.place c.requires c.position-at.result c.position-at.ensures c.if-at-self.true _ c.if-self-at.true
-
-pub returns-else-at-self : goal.returns-else-at-self
-returns-else-at-self c =
-    misses c.args.self.now c.args.place c.requires c.position-at.result c.position-at.ensures
-    (λ u e. elim c.else-at-self.branch [
-      | else-at-self-via-then-at-self+else-self-at w ↦ w.if-self-at.false e
-      | else-at-self-via-else-at-self w ↦ omega (arith, w.if-at-self.false)
-    ])
+pub returns : goal.returns
+returns c =
+    let s = c.args.self.now in
+    let p = c.args.place in
+    let r = c.binary_search_by_key.result in
+    let facts = c.binary_search_by_key.ensures in
+    let by_place = facts.position (λ entry. entry.place) (answers_always _ _ _ (λ f a r g called. search rules)) in
+    let found = searched s p c.requires r facts.bound by_place in
+    record { place = found; room = room s p c.requires r found }

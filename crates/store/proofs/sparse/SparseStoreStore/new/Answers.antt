@@ -1,14 +1,14 @@
 use Rattle.std.proofs.Common.{replicate, pos, refl}
 use Rattle.store.specs.Entries.{unused, used_from, entries_of}
-use Rattle.store.specs.NormalForm.{Kept, kept}
+use Rattle.store.specs.NormalForm.{KeptFor, kept_for}
 use Rattle.store.proofs.sparse.SparseStoreStore.new.Goals as goal
 
-zeros : Kept (replicate 64 unused) 0 (replicate 64 (pos 0))
+zeros : KeptFor (replicate 64 unused) 0 (replicate 64 (pos 0))
 unfolding used_from entries_of
-zeros = kept (replicate 64 unused) 0 (replicate 64 (pos 0)) refl refl refl
+zeros = kept_for (replicate 64 unused) 0 (replicate 64 (pos 0)) refl refl refl
 
 pub invariant_of-result : goal.invariant_of-result
-invariant_of-result c = record { full = zeros.full; room = zeros.room; ordered = zeros.ordered; blank = zeros.blank }
+invariant_of-result c = record { kept = zeros.kept }
 
 pub returns : goal.returns
 returns c = zeros.values
