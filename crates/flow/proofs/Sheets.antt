@@ -1,15 +1,14 @@
 -- What is decided of the rows of a table is decided of each valid sheet that the table represents. Assumes nothing.
-use Rattle.std.proofs.Common.{◌≡◌, ℕ, ◌+◌, ◌*◌, ◌/◌, ◌%◌, ◌^◌, ◌<◌, Bool, true, eqb, length, get_or, Decides, sym, refl, ap, ◌∙◌, subst, inl, inr, arith}
-use Rattle.std.proofs.lemmas.Nat.{shr-shr, div-add-mod'}
+use Rattle.std.proofs.Common.{◌≡◌, ℕ, ◌%◌, Bool, length, get_or, Decides, sym, refl, ap, ◌∙◌, subst, inl, inr, arith}
 use Rattle.std.proofs.lemmas.List.{get_or_past}
-use Rattle.std.proofs.lemmas.Bool.{both_ways, cases_lt, cases_eq, ltb-true, lt-ltb}
+use Rattle.std.proofs.lemmas.Bool.{both_ways, cases_lt, ltb-true, lt-ltb}
 use Rattle.lattice.specs.Lattice.{Lattice, Lawful, Known}
 use Rattle.policy.specs.declared.row.Row.{Row}
 use Rattle.policy.specs.Policy.{Policy, leaf, FlowsTo, KnownLevels, wipes}
 use Rattle.policy.specs.Masks.{bit}
 use Rattle.policy.specs.Rows.{Holds, no_leaf}
 use Rattle.policy.proofs.Filled.{holds_present}
-use Rattle.policy.proofs.Masks.{bit_zero, some_bit}
+use Rattle.policy.proofs.Masks.{bit_zero}
 use Rattle.sheet.specs.declared.rows.Grant.{Grant}
 use Rattle.sheet.specs.declared.rows.SheetTable.{SheetTable}
 use Rattle.sheet.specs.Sheet.{Sheet, policy_of, level_of, permit_at}
@@ -19,18 +18,10 @@ use Rattle.machine.specs.SoundSheet.{SoundSheet, HasVariable, HasPermit}
 use Rattle.flow.specs.declared.masks.Inflow.{Inflow}
 use Rattle.flow.specs.declared.masks.PermitFlow.{PermitFlow}
 use Rattle.flow.specs.declared.masks.FlowMasks.{FlowMasks}
-use Rattle.flow.specs.Flows.{no_inflow, VariablesThat, Admits, Permits, MasksOf}
+use Rattle.flow.specs.Flows.{no_inflow, no_variable_flow, VariablesThat, Admits, Permits, MasksOf}
+use Rattle.flow.proofs.Declared.{mask_below}
 use Rattle.flow.specs.TableFlows.{EachBit, row_of, leaf_row, conditions_in, variables_in, permits_in, VariablesInto, VariablesFrom, InflowOf, PermitFlowOf, TableFlows}
 use Rattle.machine.proofs.Sheets.{valid_sound}
-
--- a mask all of whose bits are below w
-pub mask_below : (w n : ℕ) → ((k : ℕ) → bit k n ≡ true → k < w) → n % 2 ^ w ≡ n
-unfolding bit
-mask_below w n f =
-    elim (cases_eq (n / 2 ^ w) 0) [
-      | inl e ↦ omega (arith, div-add-mod' n (2 ^ w), ap (λ (q : ℕ). q * 2 ^ w) e)
-      | inr ne ↦ let r = some_bit (n / 2 ^ w) ne in absurd (omega (arith, f (w + r.0) (ap (λ (q : ℕ). eqb (q % 2) 1) (sym (shr-shr n w r.0)) ∙ r.1)))
-    ]
 
 leaf_holds : (l : ℕ) → Holds (leaf_row l) (leaf l)
 leaf_holds l = record { conditions = tt; levels = refl; wipers = bit_zero }
@@ -88,11 +79,11 @@ module _ (C : Lattice) (t : SheetTable) (sh : Sheet) (R : Represents t sh) (V : 
     targets = out_of grant.to (permit_at sh p).to f.targets h.to (sound.permits p d).1 e.targets;
   }
 
-  wiped : (m : FlowMasks) → TableFlows C t m → (v c : ℕ) → bit c (get_or m.wipers v 0) ≡ wipes c (policy_of sh v)
+  wiped : (m : FlowMasks) → TableFlows C t m → (v c : ℕ) → bit c (get_or m.variable v no_variable_flow).wipers ≡ wipes c (policy_of sh v)
   wiped m f v c =
       elim (cases_lt v (length sh.variables)) [
-        | inl l ↦ ap (bit c) (f.wipers.below v (omega (arith, all_variables))) ∙ (R.rows v l).policy.wipers c
-        | inr l ↦ ap (bit c) (f.wipers.beyond v (omega (arith, all_variables))) ∙ bit_zero c ∙ sym (ap (λ x. wipes c x.policy) (get_or_past sh.variables v _ l))
+        | inl l ↦ ap (bit c) (f.variable.below v (omega (arith, all_variables))).wipers ∙ (R.rows v l).policy.wipers c
+        | inr l ↦ ap (λ x. bit c x.wipers) (f.variable.beyond v (omega (arith, all_variables))) ∙ bit_zero c ∙ sym (ap (λ x. wipes c x.policy) (get_or_past sh.variables v _ l))
       ]
 
   pub masks_of : (m : FlowMasks) → Lawful C → TableFlows C t m → MasksOf C sh m
@@ -100,7 +91,7 @@ module _ (C : Lattice) (t : SheetTable) (sh : Sheet) (R : Represents t sh) (V : 
     conditions = f.counts.0 ∙ all_conditions;
     variables = f.counts.1 ∙ all_variables;
     permits = f.counts.2 ∙ all_permits;
-    variable = λ v d. admits (row_of t v) (policy_of sh v) _ (variable_holds v d) (sound.variables v d) (f.variable.below v (omega (arith, all_variables, ltb-true _ _ d)));
+    variable = λ v d. admits (row_of t v) (policy_of sh v) _ (variable_holds v d) (sound.variables v d) (f.variable.below v (omega (arith, all_variables, ltb-true _ _ d))).inflow;
     condition = λ c d. leaf_admits (level_of sh c) _ (sound.conditions c d)
         (subst (λ l. InflowOf C t (leaf_row l) (get_or m.condition c no_inflow)) (R.levels c (ltb-true _ _ d)) (f.condition.below c (omega (arith, all_conditions, ltb-true _ _ d))));
     lowest = leaf_admits C.lowest m.lowest laws.lowest_known f.lowest;

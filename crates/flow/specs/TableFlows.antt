@@ -1,6 +1,6 @@
 -- What may flow where between the rows of a table, whatever they hold; and so under each valid sheet that the table represents.
 -- A count beyond the table's places stands for all of them.
-use Rattle.std.specs.Prelude.{◌≡◌, ℕ, ◌%◌, ◌<◌, ◌≤◌, min, Bool, false, List, get_or, slice_index, slice_index_or}
+use Rattle.std.specs.Prelude.{◌≡◌, ℕ, ◌%◌, ◌<◌, ◌≤◌, min, Bool, false, List, length, get_or, slice_index, slice_index_or}
 use Rattle.lattice.specs.Lattice.{Lattice}
 use Rattle.policy.specs.declared.row.Row.{Row}
 use Rattle.policy.specs.Masks.{bit}
@@ -12,9 +12,10 @@ use Rattle.sheet.specs.Sheet.{Sheet}
 use Rattle.sheet.specs.Table.{Represents, blank_variable, blank_grant}
 use Rattle.sheet.specs.Valid.{Valid}
 use Rattle.flow.specs.declared.masks.Inflow.{Inflow}
+use Rattle.flow.specs.declared.masks.VariableFlow.{VariableFlow}
 use Rattle.flow.specs.declared.masks.PermitFlow.{PermitFlow}
 use Rattle.flow.specs.declared.masks.FlowMasks.{FlowMasks}
-use Rattle.flow.specs.Flows.{no_inflow, no_permit, MasksOf}
+use Rattle.flow.specs.Flows.{no_inflow, no_variable_flow, no_permit, MasksOf}
 
 -- a mask with a bit for each of the first n numbers, of which this holds
 pub record EachBit (n : ℕ) (P : ℕ → Bool → Type 0) (mask : ℕ) : Type 0 where
@@ -25,6 +26,15 @@ pub record EachBit (n : ℕ) (P : ℕ → Bool → Type 0) (mask : ℕ) : Type 0
 pub record EachItem {X : Type 0} (n : ℕ) (none : X) (P : ℕ → X → Type 0) (xs : List X) : Type 0 where
   pub below : (i : ℕ) → i < n → P i (slice_index_or xs i none)
   pub beyond : (i : ℕ) → n ≤ i → slice_index_or xs i none ≡ none
+
+-- what is made of the item at a place of a list, or nothing beyond them
+pub record MadeAt {T X : Type 0} (Made : T → X → Type 0) (Nothing : X → Type 0) (items : List T) (i : ℕ) (x : X) : Type 0 where
+  pub below : (d : T) → i < length items → Made (slice_index_or items i d) x
+  pub beyond : length items ≤ i → Nothing x
+
+-- what is made of each item of a list, as far as there is room, and nothing beyond them
+abbrev pub MadeOfEach : {T X : Type 0} → (T → X → Type 0) → (X → Type 0) → List T → List X → Type 0
+MadeOfEach {T} {X} Made Nothing items xs = (i : ℕ) (e : X) → i < length xs → MadeAt Made Nothing items i (slice_index_or xs i e)
 
 abbrev pub conditions_in : SheetTable → ℕ
 conditions_in t = min t.conditions 16
@@ -59,6 +69,11 @@ pub record InflowOf (C : Lattice) (t : SheetTable) (row : Row) (f : Inflow) : Ty
   pub variables : VariablesInto C t row f.variables
   pub conditions : ConditionsBelow C t (get_or row.levels 0 no_leaf).level f.conditions
 
+-- what may reach a variable of this row, and what wipes it
+pub record VariableFlowOf (C : Lattice) (t : SheetTable) (row : Row) (f : VariableFlow) : Type 0 where
+  pub inflow : InflowOf C t row f.inflow
+  pub wipers : f.wipers ≡ row.wipers
+
 -- a permit's conditions, of which there are sixteen, what it may release, and into what
 pub record PermitFlowOf (C : Lattice) (t : SheetTable) (grant : Grant) (f : PermitFlow) : Type 0 where
   pub conditions : f.conditions ≡ grant.conditions % 65536
@@ -66,8 +81,8 @@ pub record PermitFlowOf (C : Lattice) (t : SheetTable) (grant : Grant) (f : Perm
   pub targets : VariablesFrom C t grant.to f.targets
 
 -- for each variable, each condition, each permit; nothing beyond them
-abbrev pub IntoVariables : Lattice → SheetTable → List Inflow → Type 0
-IntoVariables C t = EachItem (variables_in t) no_inflow (λ v. InflowOf C t (row_of t v))
+abbrev pub IntoVariables : Lattice → SheetTable → List VariableFlow → Type 0
+IntoVariables C t = EachItem (variables_in t) no_variable_flow (λ v. VariableFlowOf C t (row_of t v))
 
 abbrev pub IntoConditions : Lattice → SheetTable → List Inflow → Type 0
 IntoConditions C t = EachItem (conditions_in t) no_inflow (λ c. InflowOf C t (leaf_row (slice_index t.levels c)))
@@ -75,16 +90,12 @@ IntoConditions C t = EachItem (conditions_in t) no_inflow (λ c. InflowOf C t (l
 abbrev pub ByPermits : Lattice → SheetTable → List PermitFlow → Type 0
 ByPermits C t = EachItem (permits_in t) no_permit (λ p. PermitFlowOf C t (slice_index_or t.grants p blank_grant))
 
-abbrev pub WipersOf : SheetTable → List ℕ → Type 0
-WipersOf t = EachItem (variables_in t) 0 (λ v w. w ≡ (row_of t v).wipers)
-
 pub record TableFlows (C : Lattice) (t : SheetTable) (m : FlowMasks) : Type 0 where
   pub counts : (m.conditions ≡ conditions_in t) × (m.variables ≡ variables_in t) × (m.permits ≡ permits_in t)
   pub variable : IntoVariables C t m.variable
   pub condition : IntoConditions C t m.condition
   pub lowest : InflowOf C t (leaf_row C.lowest) m.lowest
   pub permit : ByPermits C t m.permit
-  pub wipers : WipersOf t m.wipers
 
 -- the masks of a table, and of each valid sheet that it represents
 pub record FlowsOf (C : Lattice) (t : SheetTable) (m : FlowMasks) : Type 0 where
