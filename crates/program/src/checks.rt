@@ -55,7 +55,7 @@ pub(crate) fn check_record(
     first: Record,
     place: usize,
     opened: usize,
-    innermost: Innermost,
+    innermost: Option<Innermost>,
     context: Context,
 ) -> Result<RecordKind, Refusal>
     requires { opened < 4096 }
@@ -63,7 +63,7 @@ pub(crate) fn check_record(
         (λ k. Passed masks.now context opened innermost place first k)
         (λ e. (rs : List AnyRecord) → Refused masks.now context opened innermost place (first ∷ rs) e) }
 {
-    let kind = kind_at(first.letter, innermost);
+    let kind = kind_at(first.letter, innermost).ok_or(Rule::ProgramLetter.at(place, 0))?;
     match kind {
         RecordKind::Set => {
             let target = check_set(first, place, masks.variables)?;
@@ -99,7 +99,6 @@ pub(crate) fn check_record(
             check_reach(Rule::LoopLowest, place, inside, masks.lowest)?;
         }
         RecordKind::Mark => check_mark(first, place)?,
-        RecordKind::Misplaced => return Err(Rule::ProgramLetter.at(place, 0)),
     }
     Ok(kind)
 }

@@ -4,7 +4,6 @@ ghost use Rattle.program.specs.Loading.{ProgramRead, ProgramRefused};
 
 use crate::blocks::check_block;
 use crate::context::Context;
-use crate::innermost::Innermost;
 use crate::kept::{Instruction, Program};
 use flow::FlowMasks;
 use records::{Refusal, Rule};
@@ -29,7 +28,7 @@ pub fn read_program(masks: &FlowMasks, bytes: &[u8]) -> Result<Program, Refusal>
         bytes,
         0,
         0,
-        Innermost::Outermost,
+        None,
         inside,
         &mut context,
         &mut instructions,
