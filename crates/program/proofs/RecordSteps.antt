@@ -18,7 +18,7 @@ use Rattle.machine.specs.Typing.{Context, under_variable, under_conditions}
 use Rattle.flow.specs.declared.masks.Inflow.{Inflow}
 use Rattle.flow.specs.declared.masks.PermitFlow.{PermitFlow}
 use Rattle.flow.specs.declared.masks.FlowMasks.{FlowMasks}
-use Rattle.flow.specs.Flows.{no_inflow, no_permit, Admits}
+use Rattle.flow.specs.Flows.{no_inflow, no_variable_flow, no_permit, Admits}
 use Rattle.program.specs.declared.context.Context.{Context as Masks}
 use Rattle.program.specs.declared.innermost.Innermost.{Innermost}
 use Rattle.program.specs.declared.innermost.Innermost.TheVariants.{First, Second, Loop}
@@ -160,7 +160,7 @@ module _ (m : FlowMasks) (pc : Masks) (opened : ℕ) (inner : Option Innermost) 
   place_of : (v : ℕ) → ltb v m.variables ≡ true → v < 64
   place_of v h = omega (arith, ltb-true v m.variables h, m.counts)
 
-  pub setting : Some Set ≡ kind_at r.letter inner → Reaching Set sets (set_fields r place m.variables) r.a 16 pc (λ t. get_or m.variable t no_inflow)
+  pub setting : Some Set ≡ kind_at r.letter inner → Reaching Set sets (set_fields r place m.variables) r.a 16 pc (λ t. (get_or m.variable t no_variable_flow).inflow)
   setting h =
       let q = kind_found (Some Set) r.letter inner h in
       record {
@@ -195,7 +195,7 @@ module _ (m : FlowMasks) (pc : Masks) (opened : ℕ) (inner : Option Innermost) 
       }
 
   pub combining : (s : KeptSign) → Some (OneSign s) ≡ kind_at r.letter inner
-      → Reaching (OneSign s) (signs (sign_of s)) (three_fields r place m.variables m.variables) r.a 16 (with_variable r.b (with_variable r.c pc)) (λ t. get_or m.variable t no_inflow)
+      → Reaching (OneSign s) (signs (sign_of s)) (three_fields r place m.variables m.variables) r.a 16 (with_variable r.b (with_variable r.c pc)) (λ t. (get_or m.variable t no_variable_flow).inflow)
   combining s h =
       let q = kind_found (Some (OneSign s)) r.letter inner h in
       record {
@@ -325,7 +325,7 @@ module _ (m : FlowMasks) (pc : Masks) (opened : ℕ) (inner : Option Innermost) 
   module _ (t : ℕ) (j : Ok t ≡ judged threes r.a) where
     abbrev reached_by : Reading Command → Reading Command
     reached_by a =
-        first (each_within 16 place (context_of (with_conditions permit.conditions pc)) (masked (get_or m.variable t no_inflow).variables (get_or m.variable t no_inflow).conditions))
+        first (each_within 16 place (context_of (with_conditions permit.conditions pc)) (masked (get_or m.variable t no_variable_flow).inflow.variables (get_or m.variable t no_variable_flow).inflow.conditions))
         (first (rule 16 place (512 + r.c) (bit r.a permit.targets) ∷ rule 18 place 0 (bit r.b permit.sources) ∷ []) a)
 
     release_reaches : Asks m pc opened inner place r releases (λ C sh a. reached_by a)
@@ -346,8 +346,8 @@ module _ (m : FlowMasks) (pc : Masks) (opened : ℕ) (inner : Option Innermost) 
         let from : flows C (policy_of sh r.b) (permit_at sh r.c).from ≡ bit r.b permit.sources = flows_mask W sh U (permit_at sh r.c).from permit.sources r.b known.0 P.sources has_b in
         release_asks C sh blocks commands A rs ∙ first_holds threes _ p.1
         ∙ (λ i. first (each_within 16 place (c i) (widest C sh (policy_of sh r.a))) (first (rule 16 place (512 + r.c) (to i) ∷ rule 18 place 0 (from i) ∷ []) a))
-        ∙ reaches W sh U 16 place (with_conditions mask pc) (get_or m.variable r.a no_inflow) (policy_of sh r.a) _ d (U.sound.variables r.a hasA) (A.masks.variable r.a hasA)
-        ∙ (λ i. first (each_within 16 place (context_of (with_conditions (sym P.conditions i) pc)) (masked (get_or m.variable (sym p.0 i) no_inflow).variables (get_or m.variable (sym p.0 i) no_inflow).conditions))
+        ∙ reaches W sh U 16 place (with_conditions mask pc) (get_or m.variable r.a no_variable_flow).inflow (policy_of sh r.a) _ d (U.sound.variables r.a hasA) (A.masks.variable r.a hasA)
+        ∙ (λ i. first (each_within 16 place (context_of (with_conditions (sym P.conditions i) pc)) (masked (get_or m.variable (sym p.0 i) no_variable_flow).inflow.variables (get_or m.variable (sym p.0 i) no_variable_flow).inflow.conditions))
         (first (rule 16 place (512 + r.c) (bit r.a permit.targets) ∷ rule 18 place 0 (bit r.b permit.sources) ∷ []) a))
 
     pub release_refused : (e : Refusal) → ((a : Reading Command) → reached_by a ≡ refused e) → Stuck m pc opened inner place r e
