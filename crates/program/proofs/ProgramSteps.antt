@@ -34,7 +34,10 @@ pub wrong_length : (m : FlowMasks) (bs : List ℕ) → whole_records bs ≡ fals
 unfolding program_in
 wrong_length m bs h = record { answer = λ C sh W U M. cond-false (whole_records bs) _ _ h }
 
-module _ (m : FlowMasks) (bs : List ℕ) (whole : length bs % 8 ≡ 0) (short : length bs ≤ 2048) (pc : Masks) (e : pc ≡ under_none) where
+module _ (m : FlowMasks) (bs : List ℕ) (whole : length bs % 8 ≡ 0) (short : length bs ≤ 2048) (pc : Masks) (z : (pc.variables ≡ 0) × (pc.conditions ≡ 0)) where
+  e : pc ≡ under_none
+  e = λ i. record { variables = z.0 i; conditions = z.1 i }
+
   starts : (C : Lattice) (sh : Sheet) → program_in C sh bs ≡ answer C sh (at 0 [] (context_of pc) (λ c. c)) (records bs)
   unfolding program_in
   starts C sh =

@@ -1,7 +1,6 @@
 -- The rules that are asked of one record. Assumes nothing.
-use Rattle.std.proofs.Common.{◌≡◌, ℕ, ◌+◌, ◌/◌, ◌^◌, ◌<◌, true, false, ltb, Some, None, Option, List, [], ◌∷◌, get_or, Result, ok_or, Ok, Err, sym, refl, ap, ◌∙◌, subst, arith}
-use lib.Bits.{bit_and}
-use Rattle.std.proofs.lemmas.Bool.{cond-true, cond-false, eq-eqb, ne_eqb, ltb-true}
+use Rattle.std.proofs.Common.{◌≡◌, ℕ, ◌+◌, ◌<◌, true, ltb, Some, None, Option, List, [], ◌∷◌, get_or, Result, ok_or, Ok, Err, sym, refl, ap, ◌∙◌, subst, arith}
+use Rattle.std.proofs.lemmas.Bool.{cond-true, ltb-true}
 use Rattle.lattice.specs.Lattice.{Lattice}
 use Rattle.records.specs.declared.Record.{Record}
 use Rattle.records.specs.declared.refusal.Refusal.{Refusal}
@@ -10,7 +9,6 @@ use Rattle.records.specs.Rules.{Reading, refused, Rule, rule, first, judged}
 use Rattle.records.proofs.Firsts.{AllHold, first_holds, judged_ok, judged_err}
 use Rattle.policy.specs.Policy.{Policy, leaf, KnownLevels}
 use Rattle.policy.specs.Masks.{bit, members}
-use Rattle.policy.proofs.Masks.{bit_test}
 use Rattle.sheet.specs.Sheet.{Sheet, policy_of, level_of, permit_at}
 use Rattle.machine.specs.Command.{Command}
 use Rattle.machine.specs.SoundSheet.{HasVariable, HasCondition, HasPermit}
@@ -36,32 +34,6 @@ use Rattle.program.proofs.ContextMasks.{masked_variable, masked_conditions}
 use Rattle.program.proofs.LetterSteps.{Letter, letter_of_lem, kind_found, first_in, last_in, first_in_lem, last_in_lem}
 use Rattle.program.proofs.Reaches.{declared_variable_lem, declared_conditions, flows_mask, flowing_mask, reaches}
 use Rattle.program.proofs.Steps as steps
-
--- an equal context is asked alike
-pub asked_as : (number place : ℕ) {pc pc' : Masks} (vs cs : ℕ) (a x : Reading Command) → pc ≡ pc'
-    → first (each_within number place (context_of pc) (masked vs cs)) a ≡ x → first (each_within number place (context_of pc') (masked vs cs)) a ≡ x
-asked_as number place vs cs a x e h = subst (λ p. first (each_within number place (context_of p) (masked vs cs)) a ≡ x) e h
-
--- ── a release, over masks ──
-
-module _ (place : ℕ) (r : Record) (targets sources : ℕ) (a : Reading Command) where
-  abbrev released : Reading Command
-  released = first (rule 16 place (512 + r.c) (bit r.a targets) ∷ rule 18 place 0 (bit r.b sources) ∷ []) a
-
-  has : (v mask : ℕ) → bit_and (mask / 2 ^ v) 1 ≡ 1 → bit v mask ≡ true
-  has v mask e = sym (bit_test v mask) ∙ eq-eqb _ 1 e
-
-  lacks : (v mask : ℕ) → (bit_and (mask / 2 ^ v) 1 ≡ 1 → ⊥) → bit v mask ≡ false
-  lacks v mask e = sym (bit_test v mask) ∙ ne_eqb _ 1 e
-
-  pub release_target : (bit_and (targets / 2 ^ r.a) 1 ≡ 1 → ⊥) → released ≡ refused (refusal 16 place (512 + r.c))
-  release_target e = cond-false (bit r.a targets) _ _ (lacks r.a targets e)
-
-  pub release_source : bit_and (targets / 2 ^ r.a) 1 ≡ 1 → (bit_and (sources / 2 ^ r.b) 1 ≡ 1 → ⊥) → released ≡ refused (refusal 18 place 0)
-  release_source e f = cond-true (bit r.a targets) _ _ (has r.a targets e) ∙ cond-false (bit r.b sources) _ _ (lacks r.b sources f)
-
-  pub release_passes : bit_and (targets / 2 ^ r.a) 1 ≡ 1 → bit_and (sources / 2 ^ r.b) 1 ≡ 1 → released ≡ a
-  release_passes e f = cond-true (bit r.a targets) _ _ (has r.a targets e) ∙ cond-true (bit r.b sources) _ _ (has r.b sources f)
 
 -- ── the rules of a record, over a sheet's masks ──
 

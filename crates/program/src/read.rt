@@ -21,7 +21,7 @@ pub fn read_program(masks: &FlowMasks, bytes: &[u8]) -> Result<Program, Refusal>
         return Err(Rule::ProgramLength.at(0, 0));
     }
     let mut instructions = [Instruction::End; 256];
-    let mut context = Context::outermost();
+    let mut context = Context::default();
     let inside = context;
     let (count, _rest) = check_block(
         masks,
