@@ -6,6 +6,7 @@ use Rattle.std.proofs.lemmas.Bool.{cond-false, lt-ltb}
 use Rattle.lattice.specs.Lattice.{Lattice}
 use Rattle.records.specs.declared.Record.{Record}
 use Rattle.records.specs.declared.refusal.Refusal.{Refusal}
+use Rattle.records.specs.declared.cursor.Cursor.{Cursor}
 use Rattle.records.specs.Refusals.{refusal}
 use Rattle.sheet.specs.Sheet.{Sheet}
 use Rattle.machine.specs.Command.{Command, skip, ◌⨾◌, set, combine, release, raise, if_variable, if_condition, while}
@@ -24,7 +25,8 @@ use Rattle.program.specs.Keeping.{kept_as}
 use Rattle.program.specs.Rules.{Test, on_variable, on_condition, branch, Block, then_block, else_block, loop_block, at, Kind, kind, sets, signs, releases, raises, loops, none, established, answer}
 use Rattle.program.specs.Contexts.{with_variable, with_conditions, inside_of}
 use Rattle.program.specs.Letters.{innermost_of}
-use Rattle.program.specs.Reading.{context_of, Declared, Alike, Refused, Named, Passed, opening, Branches, Stand, Reads, Ends, BlockRead, end_bytes}
+use Rattle.program.specs.Reading.{context_of, Declared, Alike, Refused, Named, Passed, opening, Branches, Stand, Reads, BlockRead, end_of}
+use Rattle.program.specs.Forward.{SameEnd, BlockForward}
 use Rattle.program.proofs.ContextMasks.{masked_variable, masked_condition}
 use Rattle.program.proofs.LetterSteps.{kept_sign-of, kind_found}
 use Rattle.program.proofs.Reaches.{declared_variable_lem, declared_condition_lem}
@@ -106,17 +108,30 @@ module _ (m : FlowMasks) (pc : Masks) (opened : ℕ) (inner : Option Innermost) 
 
 -- ── where a block ends ──
 
+pub forward_ended : (inner : Option Innermost) (a b : Cursor) → inner ≡ None → SameEnd a b → a.place ≤ b.place → length b.left.now < 8 → BlockForward inner a b
+forward_ended None a b e s l h = (s, l, h)
+forward_ended (Some i) a b e s l h = absurd (cc e)
+
 module _ (m : FlowMasks) (pc : Masks) (opened : ℕ) where
-  pub ends_mark : (inner : Option Innermost) (place : ℕ) (r : Record) (left rest : List Record) → left ≡ r ∷ rest → Passed m pc opened inner place r Mark → Ends m pc opened inner place left rest
-  ends_mark None place r left rest e p = absurd (kind_found (Some Mark) r.letter None p.is)
-  ends_mark (Some i) place r left rest e p = (r, e, p)
+  pub block_marked : (inner : Option Innermost) {start place next : ℕ} {rs left rest : List Record} {xs ys : List Instruction} (r : Record) → Passed m pc opened inner place r Mark
+      → Reads m pc opened inner start rs xs ys place left → left ≡ r ∷ rest → next ≡ place + 1 → BlockRead m pc opened inner start rs xs ys (end_of inner next) rest
+  block_marked None r p R e n = absurd (kind_found (Some Mark) r.letter None p.is)
+  block_marked (Some i) {start = start} {place = place} {next = next} {rs = rs} {left = left} {xs = xs} {ys = ys} r p R e n =
+      let q : place ≡ next - 1 = omega arith in
+      record {
+        left = left;
+        reads = subst (λ k. Reads m pc opened (Some i) start rs xs ys k left) q R;
+        ends = (r, e, subst (λ k. Passed m pc opened (Some i) k r Mark) q p);
+      }
 
-  pub mark_bytes : (inner : Option Innermost) (place : ℕ) (r : Record) → Passed m pc opened inner place r Mark → end_bytes inner ≡ 8
-  mark_bytes None place r p = absurd (kind_found (Some Mark) r.letter None p.is)
-  mark_bytes (Some i) place r p = refl
+  pub forward_marked : (inner : Option Innermost) {place : ℕ} (a b : Cursor) (r : Record) → Passed m pc opened inner place r Mark → SameEnd a b → a.place < b.place → BlockForward inner a b
+  forward_marked None a b r p e l = absurd (kind_found (Some Mark) r.letter None p.is)
+  forward_marked (Some i) a b r p e l = (e, l)
 
-  pub ends_outermost : (inner : Option Innermost) (place : ℕ) (left rest : List Record) → inner ≡ None → left ≡ [] → Ends m pc opened inner place left rest
-  ends_outermost inner place left rest e q = subst (λ i. Ends m pc opened i place left rest) (sym e) q
+  pub block_ended : (inner : Option Innermost) {start place : ℕ} {rs left : List Record} {xs ys : List Instruction} → inner ≡ None → Reads m pc opened inner start rs xs ys place left → left ≡ []
+      → BlockRead m pc opened inner start rs xs ys (end_of inner place) left
+  block_ended None {left = left} e R l = record { left = left; reads = R; ends = l }
+  block_ended (Some i) e R l = absurd (cc e)
 
   some_block : {i : Innermost} (blocks : List Block) → innermost_of blocks ≡ Some i → none blocks ≡ false
   some_block [] h = cc
@@ -420,6 +435,18 @@ module _ (m : FlowMasks) (pc : Masks) (opened : ℕ) (inner : Option Innermost) 
             earlier = λ i h. elsewhere i (λ q. omega arith) (λ q. omega arith) (λ q. omega arith) ∙ D.reads.earlier i (omega arith) ∙ B.reads.earlier i (omega arith);
             goes = branch_goes;
           }
+
+-- ── equal places ──
+
+module _ (m : FlowMasks) (pc : Masks) (opened : ℕ) (inner : Option Innermost) {p q : ℕ} (e : p ≡ q) where
+  pub refused_at : {rs : List Record} {x : Refusal} → Refused m pc opened inner p rs x → Refused m pc opened inner q rs x
+  refused_at {rs = rs} {x = x} h = subst (λ n. Refused m pc opened inner n rs x) e h
+
+  pub block_at : {next : ℕ} {rs rest : List Record} {xs ys : List Instruction} → BlockRead m pc opened inner p rs xs ys next rest → BlockRead m pc opened inner q rs xs ys next rest
+  block_at {next = next} {rs = rs} {rest = rest} {xs = xs} {ys = ys} h = subst (λ n. BlockRead m pc opened inner n rs xs ys next rest) e h
+
+  pub reads_to : {place : ℕ} {rs left : List Record} {xs ys : List Instruction} → Reads m pc opened inner place rs xs ys p left → Reads m pc opened inner place rs xs ys q left
+  reads_to {place = place} {rs = rs} {left = left} {xs = xs} {ys = ys} h = subst (λ n. Reads m pc opened inner place rs xs ys n left) e h
 
 -- ── equal contexts and kinds ──
 

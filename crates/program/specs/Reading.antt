@@ -1,5 +1,5 @@
 -- What the checks of a record, a command and a block answer for: the rules refuse as they do, or go on after it.
-use Rattle.std.specs.Prelude.{◌≡◌, ℕ, ◌+◌, ◌<◌, true, Some, None, Option, List, [], ◌∷◌, ◌++◌, length, slice_index_or}
+use Rattle.std.specs.Prelude.{◌≡◌, ℕ, ◌+◌, ◌-◌, ◌<◌, true, Some, None, Option, List, [], ◌∷◌, ◌++◌, length, slice_index_or}
 use Rattle.lattice.specs.Lattice.{Lattice, Lawful}
 use Rattle.records.specs.declared.Record.{Record}
 use Rattle.records.specs.declared.refusal.Refusal.{Refusal}
@@ -109,7 +109,7 @@ pub record BlockRead (m : FlowMasks) (pc : Masks) (opened : ℕ) (inner : Option
   pub reads : Reads m pc opened inner place rs before after next left
   pub ends : Ends m pc opened inner next left rest
 
--- how many bytes the end of a block fills
-abbrev pub end_bytes : Option Innermost → ℕ
-end_bytes None = 0
-end_bytes (Some i) = 8
+-- the place of a block's end, where this is the place behind it
+abbrev pub end_of : Option Innermost → ℕ → ℕ
+end_of None next = next
+end_of (Some i) next = next - 1

@@ -9,6 +9,7 @@ mod innermost;
 mod instructions;
 mod kept;
 mod letters;
+mod placed;
 mod reach;
 mod read;
 mod rules;

@@ -5,8 +5,9 @@ ghost use Rattle.program.specs.Loading.{ProgramRead, ProgramRefused};
 use crate::blocks::check_block;
 use crate::context::Context;
 use crate::kept::{Instruction, Program};
+use crate::placed::Block;
 use flow::FlowMasks;
-use records::{Refusal, Rule};
+use records::{Cursor, Refusal, Rule};
 
 /// The most bytes that a program may have.
 pub const PROGRAM_BYTES: usize = 2048;
@@ -22,19 +23,20 @@ pub fn read_program(masks: &FlowMasks, bytes: &[u8]) -> Result<Program, Refusal>
     }
     let mut instructions = [Instruction::End; 256];
     let mut context = Context::default();
-    let inside = context;
-    let (count, _rest) = check_block(
+    let outermost = Block {
+        opened: 0,
+        innermost: None,
+        inside: context,
+    };
+    let end = check_block(
         masks,
-        bytes,
-        0,
-        0,
-        None,
-        inside,
+        Cursor::new(bytes),
+        outermost,
         &mut context,
         &mut instructions,
     )?;
     Ok(Program {
-        count,
+        count: end.place,
         instructions,
     })
 }
