@@ -1,67 +1,61 @@
 // Blocks and their commands, checked and kept in one pass.
-ghost use Rattle.std.specs.Prelude.{◌≡◌, ℕ, ◌+◌, ◌*◌, ◌<◌, ◌≤◌, ◌≢◌, ◌∷◌, length, IfOk, MatchResult};
+ghost use Rattle.std.specs.Prelude.{◌≡◌, Option, ◌*◌, ◌+◌, ◌≤◌, ◌≢◌, length, IfOk, MatchResult};
 ghost use Rattle.records.specs.Records.{records};
 ghost use Rattle.program.specs.declared.innermost.Innermost.{Innermost as AnyInnermost};
 ghost use Rattle.program.specs.declared.innermost.RecordKind.TheVariants.{Loop as While, Mark};
 ghost use Rattle.program.specs.Contexts.{with_variable, inside_of};
 ghost use Rattle.program.specs.Rules.{Test};
-ghost use Rattle.program.specs.Reading.{Refused, Passed, Branches, Reads, BlockRead, end_bytes};
+ghost use Rattle.program.specs.Reading.{Refused, Passed, Branches, BlockRead, end_of};
+ghost use Rattle.program.specs.Forward.{BlockForward, Forward, CommandRead};
 
 use crate::checks::check_record;
 use crate::context::{Context, Guard};
 use crate::innermost::{Innermost, RecordKind};
 use crate::kept::Instruction;
+use crate::placed::{Block, Placed};
 use flow::FlowMasks;
 use policy::condition_bit;
-use records::{Record, Refusal, Rule, next_record};
+use records::{Cursor, Record, Refusal, Rule};
 
-// Checks the commands of a block in front of `bytes`, up to its end, under the context inside it. Answers the place of the end and
-// the bytes after it.
-#[cycle(check_block_check_branch_check_command_check_loop)]
+// Checks the commands of a block at the cursor, up to its end, under the context inside it. Answers the cursor behind the end.
+#[cycle(blocks)]
 pub(crate) fn check_block<'a>(
     masks: &FlowMasks,
-    bytes: &'a [u8],
-    place: usize,
-    opened: usize,
-    innermost: Innermost,
-    inside: Context,
+    cursor: Cursor<'a>,
+    block: Block,
     context: &mut Context,
     instructions: &mut [Instruction; 256],
-) -> Result<(usize, &'a [u8]), Refusal>
-    requires { (8 * place + length bytes.now ≤ 2048) × (opened ≤ place) }
+) -> Result<Cursor<'a>, Refusal>
+    requires { (8 * cursor.place + length cursor.left.now ≤ 2048) × (block.opened ≤ cursor.place) }
     ensures restored { context.new ≡ context.old }
-    ensures forward { IfOk result (λ p. (8 * p.0 + end_bytes innermost + length p.1.now ≡ 8 * place + length bytes.now) × (place ≤ p.0) × (end_bytes innermost ≡ 0 → length p.1.now < 8)) }
+    ensures forward { IfOk result (λ p. BlockForward block.innermost cursor.entry p) }
     ensures answer { MatchResult result
-        (λ p. BlockRead masks.now inside opened innermost place (records bytes.now) instructions.old instructions.new p.0 (records p.1.now))
-        (λ e. Refused masks.now inside opened innermost place (records bytes.now) e) }
+        (λ p. BlockRead masks.now block.inside block.opened block.innermost cursor.entry.place (records cursor.entry.left.now) instructions.old instructions.new (end_of block.innermost p.place) (records p.left.now))
+        (λ e. Refused masks.now block.inside block.opened block.innermost cursor.entry.place (records cursor.entry.left.now) e) }
 {
     let former = *context;
     let guard = Guard { context, former };
-    *guard.context = inside;
-    let mut at = place;
-    let mut left = bytes;
-    while let Some((first, rest)) = next_record(left) {
-        match check_record(masks, first, at, opened, innermost, *guard.context)? {
-            RecordKind::Mark => return Ok((at, rest)),
+    *guard.context = block.inside;
+    let mut ahead = cursor;
+    while let Some((first, behind)) = ahead.split_first() {
+        let place = ahead.place;
+        match check_record(masks, first, place, block, *guard.context)? {
+            RecordKind::Mark => return Ok(behind),
             kind => {
-                let (next, after) = check_command(
-                    masks,
+                let command = Placed {
                     kind,
                     first,
-                    rest,
-                    at,
-                    opened,
-                    guard.context,
-                    instructions,
-                )?;
-                at = next;
-                left = after;
+                    place,
+                    opened: block.opened,
+                    behind,
+                };
+                ahead = check_command(masks, command, guard.context, instructions)?;
             }
         }
     }
-    match innermost {
-        Innermost::Outermost => Ok((at, left)),
-        _ => Err(Rule::ProgramLetter.at(at, 0)),
+    match block.innermost {
+        None => Ok(ahead),
+        Some(_) => Err(Rule::ProgramLetter.at(ahead.place, 0)),
     }
 }
 
@@ -76,132 +70,91 @@ fn context_inside(kind: RecordKind, first: Record, context: Context) -> Context
     }
 }
 
-// Checks the blocks of the command whose record is `first`, at `place`, and which goes on in front of `bytes`, and keeps it.
-#[cycle(check_block_check_branch_check_command_check_loop)]
+// Checks the blocks of a command, and keeps it. Answers the cursor behind the command.
+#[cycle(blocks)]
 fn check_command<'a>(
     masks: &FlowMasks,
-    kind: RecordKind,
-    first: Record,
-    bytes: &'a [u8],
-    place: usize,
-    opened: usize,
+    command: Placed<'a>,
     context: &mut Context,
     instructions: &mut [Instruction; 256],
-) -> Result<(usize, &'a [u8]), Refusal>
-    requires { (8 * (place + 1) + length bytes.now ≤ 2048) × (opened ≤ place) }
+) -> Result<Cursor<'a>, Refusal>
     ensures restored { context.new ≡ context.old }
-    ensures forward { IfOk result (λ p. (8 * p.0 + length p.1.now ≡ 8 * (place + 1) + length bytes.now) × (place < p.0)) }
-    ensures answer { (inner : AnyInnermost) → Passed masks.now context.old opened inner place first kind → kind ≢ Mark → MatchResult result
-        (λ p. Reads masks.now context.old opened inner place (first ∷ records bytes.now) instructions.old instructions.new p.0 (records p.1.now))
-        (λ e. Refused masks.now context.old opened inner place (first ∷ records bytes.now) e) }
+    ensures forward { IfOk result (λ p. Forward command.entry p) }
+    ensures answer { (inner : Option AnyInnermost) → Passed masks.now context.old command.entry.opened inner command.entry.place command.entry.first command.entry.kind → command.entry.kind ≢ Mark
+        → CommandRead masks.now context.old inner command.entry instructions.old instructions.new result }
 {
-    let inside = context_inside(kind, first, *context);
-    match kind {
-        RecordKind::VariableTest | RecordKind::ConditionTest => check_branch(
-            masks,
-            first,
-            bytes,
-            place,
-            opened,
-            inside,
-            context,
-            instructions,
-        ),
-        RecordKind::Loop => check_loop(
-            masks,
-            first,
-            bytes,
-            place,
-            opened,
-            inside,
-            context,
-            instructions,
-        ),
-        _ => {
-            instructions[place] = Instruction::plain(first);
-            Ok((place + 1, bytes))
+    let inside = context_inside(command.kind, command.first, *context);
+    match command.kind {
+        RecordKind::VariableTest | RecordKind::ConditionTest => {
+            check_branch(masks, command, inside, context, instructions)
+        }
+        RecordKind::Loop => check_loop(masks, command, inside, context, instructions),
+        kind => {
+            instructions[command.place] = Instruction::of(kind, command.first, 0);
+            Ok(command.behind)
         }
     }
 }
 
-// Checks and keeps the two blocks of the test whose record is `first`.
-#[cycle(check_block_check_branch_check_command_check_loop)]
+// Checks and keeps the two blocks of a test.
+#[cycle(blocks)]
 fn check_branch<'a>(
     masks: &FlowMasks,
-    first: Record,
-    bytes: &'a [u8],
-    place: usize,
-    opened: usize,
+    test: Placed<'a>,
     inside: Context,
     context: &mut Context,
     instructions: &mut [Instruction; 256],
-) -> Result<(usize, &'a [u8]), Refusal>
-    requires { (8 * (place + 1) + length bytes.now ≤ 2048) × (opened ≤ place) }
+) -> Result<Cursor<'a>, Refusal>
     ensures restored { context.new ≡ context.old }
-    ensures forward { IfOk result (λ p. (8 * p.0 + length p.1.now ≡ 8 * (place + 1) + length bytes.now) × (place < p.0)) }
-    ensures answer { (inner : AnyInnermost) (t : Test) → Branches masks.now context.old opened inner place first t inside → MatchResult result
-        (λ p. Reads masks.now context.old opened inner place (first ∷ records bytes.now) instructions.old instructions.new p.0 (records p.1.now))
-        (λ e. Refused masks.now context.old opened inner place (first ∷ records bytes.now) e) }
+    ensures forward { IfOk result (λ p. Forward test.entry p) }
+    ensures answer { (inner : Option AnyInnermost) (t : Test) → Branches masks.now context.old test.entry.opened inner test.entry.place test.entry.first test.entry.kind t inside
+        → CommandRead masks.now context.old inner test.entry instructions.old instructions.new result }
 {
-    let (middle, second) = check_block(
-        masks,
-        bytes,
-        place + 1,
-        opened + 1,
-        Innermost::First,
+    let then = Block {
+        opened: test.opened + 1,
+        innermost: Some(Innermost::First),
         inside,
-        context,
-        instructions,
-    )?;
+    };
+    let second = check_block(masks, test.behind, then, context, instructions)?;
     // The second block stands under the test again.
-    let again = inside;
-    let (end, rest) = check_block(
-        masks,
-        second,
-        middle + 1,
-        opened + 1,
-        Innermost::Second,
-        again,
-        context,
-        instructions,
-    )?;
-    instructions[place] = Instruction::jump(first.letter, first.a, first.b, (middle - place) as u8);
-    instructions[middle] = Instruction::jump(b'J', 0, 0, (end - middle) as u8);
-    instructions[end] = Instruction::jump(b'K', 0, 0, 0);
-    Ok((end + 1, rest))
+    let otherwise = Block {
+        innermost: Some(Innermost::Second),
+        ..then
+    };
+    let behind = check_block(masks, second, otherwise, context, instructions)?;
+    let (place, middle, end) = (test.place, second.place - 1, behind.place - 1);
+    instructions[place] = Instruction::of(test.kind, test.first, (middle - place) as u8);
+    instructions[middle] = Instruction::Jump {
+        way: (end - middle) as u8,
+    };
+    instructions[end] = Instruction::End;
+    Ok(behind)
 }
 
-// Checks and keeps the block of the loop whose record is `first`.
-#[cycle(check_block_check_branch_check_command_check_loop)]
+// Checks and keeps the block of a loop.
+#[cycle(blocks)]
 fn check_loop<'a>(
     masks: &FlowMasks,
-    first: Record,
-    bytes: &'a [u8],
-    place: usize,
-    opened: usize,
+    head: Placed<'a>,
     inside: Context,
     context: &mut Context,
     instructions: &mut [Instruction; 256],
-) -> Result<(usize, &'a [u8]), Refusal>
-    requires { (8 * (place + 1) + length bytes.now ≤ 2048) × (opened ≤ place) }
+) -> Result<Cursor<'a>, Refusal>
     ensures restored { context.new ≡ context.old }
-    ensures forward { IfOk result (λ p. (8 * p.0 + length p.1.now ≡ 8 * (place + 1) + length bytes.now) × (place < p.0)) }
-    ensures answer { (inner : AnyInnermost) → Passed masks.now context.old opened inner place first While → inside ≡ with_variable first.b context.old → MatchResult result
-        (λ p. Reads masks.now context.old opened inner place (first ∷ records bytes.now) instructions.old instructions.new p.0 (records p.1.now))
-        (λ e. Refused masks.now context.old opened inner place (first ∷ records bytes.now) e) }
+    ensures forward { IfOk result (λ p. Forward head.entry p) }
+    ensures answer { (inner : Option AnyInnermost) → Passed masks.now context.old head.entry.opened inner head.entry.place head.entry.first While → inside ≡ with_variable head.entry.first.b context.old
+        → CommandRead masks.now context.old inner head.entry instructions.old instructions.new result }
 {
-    let (end, rest) = check_block(
-        masks,
-        bytes,
-        place + 1,
-        opened + 1,
-        Innermost::Loop,
+    let block = Block {
+        opened: head.opened + 1,
+        innermost: Some(Innermost::Loop),
         inside,
-        context,
-        instructions,
-    )?;
+    };
+    let behind = check_block(masks, head.behind, block, context, instructions)?;
+    let (place, end) = (head.place, behind.place - 1);
     let way = (end - place) as u8;
-    instructions[place] = Instruction::jump(b'W', 0, first.b, way);
-    instructions[end] = Instruction::jump(b'K', 0, first.b, way);
-    Ok((end + 1, rest))
+    let variable = head.first.b;
+    instructions[place] = Instruction::Loop { variable, way };
+    instructions[end] = Instruction::Again { variable, way };
+    Ok(behind)
 }

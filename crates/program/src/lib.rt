@@ -9,10 +9,11 @@ mod innermost;
 mod instructions;
 mod kept;
 mod letters;
+mod placed;
 mod reach;
 mod read;
 mod rules;
 
-pub use kept::{Instruction, Program};
+pub use kept::{Instruction, Program, Sign};
 pub use read::{PROGRAM_BYTES, read_program};
 pub use rules::{program_examples_hold, programs_are_accepted_exactly, readers_are_sound};

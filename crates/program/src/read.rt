@@ -4,10 +4,10 @@ ghost use Rattle.program.specs.Loading.{ProgramRead, ProgramRefused};
 
 use crate::blocks::check_block;
 use crate::context::Context;
-use crate::innermost::Innermost;
 use crate::kept::{Instruction, Program};
+use crate::placed::Block;
 use flow::FlowMasks;
-use records::{Refusal, Rule};
+use records::{Cursor, Refusal, Rule};
 
 /// The most bytes that a program may have.
 pub const PROGRAM_BYTES: usize = 2048;
@@ -21,21 +21,22 @@ pub fn read_program(masks: &FlowMasks, bytes: &[u8]) -> Result<Program, Refusal>
     if bytes.len() % 8 != 0 || bytes.len() > PROGRAM_BYTES {
         return Err(Rule::ProgramLength.at(0, 0));
     }
-    let mut instructions = [Instruction::blank(); 256];
-    let mut context = Context::outermost();
-    let inside = context;
-    let (count, _rest) = check_block(
+    let mut instructions = [Instruction::End; 256];
+    let mut context = Context::default();
+    let outermost = Block {
+        opened: 0,
+        innermost: None,
+        inside: context,
+    };
+    let end = check_block(
         masks,
-        bytes,
-        0,
-        0,
-        Innermost::Outermost,
-        inside,
+        Cursor::new(bytes),
+        outermost,
         &mut context,
         &mut instructions,
     )?;
     Ok(Program {
-        count,
+        count: end.place,
         instructions,
     })
 }
