@@ -4,7 +4,7 @@ ghost use Rattle.sheet.specs.Sheet.{empty};
 ghost use Rattle.sheet.specs.Table.{blank_variable, Represents};
 ghost use Rattle.sheet.specs.Letters.{section};
 
-use crate::position::Position;
+use crate::position::Section;
 use crate::rows::{Grant, SheetTable, VariableRow};
 use policy::Row;
 
@@ -40,16 +40,16 @@ impl SheetTable {
     }
 
     // The section that the items so far have reached.
-    pub(crate) fn position(&self) -> Position
+    pub(crate) fn section(&self) -> Section
         ensures { result ≡ section self.now.variables self.now.permits }
     {
         if self.permits > 0 {
-            return Position::Permits;
+            return Section::Permits;
         }
         if self.variables > 0 {
-            Position::Variables
+            Section::Variables
         } else {
-            Position::Conditions
+            Section::Conditions
         }
     }
 }
