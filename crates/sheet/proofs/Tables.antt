@@ -2,10 +2,18 @@
 use Rattle.std.proofs.Common.{◌≡◌, ℕ, zero, suc, ◌<◌, ◌≤◌, ◌≢◌, List, [], ◌∷◌, ◌++◌, length, get_or, set, replicate, sym, refl, ap, ◌∙◌, subst, inl, inr, arith}
 use Rattle.std.proofs.lemmas.List.{length-append, get_or_append_left, get_or-set_same, get_or-set_other}
 use Rattle.std.proofs.lemmas.Bool.{cases_eq}
+use Rattle.std.proofs.lemmas.Grind.{common_steps}
+use Rattle.std.specs.Array.{AllOfLen}
+use Rattle.policy.specs.declared.row.Row.{Row}
+use Rattle.policy.specs.Rows.{blank}
 use Rattle.sheet.specs.declared.rows.VariableRow.{VariableRow}
 use Rattle.sheet.specs.declared.rows.Grant.{Grant}
 use Rattle.sheet.specs.Sheet.{empty}
 use Rattle.sheet.specs.Table.{blank_variable, Represents}
+
+-- a row of defaults
+pub default_row : (r : Row) → AllOfLen (λ x. (x.level ≡ 0) × (x.guard ≡ 0)) r.levels 8 → r.count ≡ 0 → r.wipers ≡ 0 → r ≡ blank
+default_row r h c w = grind (arith, common_steps)
 
 all_alike : {X : Type 0} (n v : ℕ) (d : X) → get_or (replicate n d) v d ≡ d
 all_alike zero zero d = refl
