@@ -18,17 +18,11 @@ use records::{Cursor, Refusal, Rule};
 fn check_condition(item: Placed, count: usize, known: bool) -> Result<u32, Refusal>
     ensures { result ≡ judged (condition_rules item.entry.record item.entry.place count known) item.entry.record.n }
 {
-    let record = item.record;
-    if record.b != 0 || record.c != 0 {
-        return Err(Rule::SheetFields.at(item.place, 0));
-    }
-    if !item.is_next(count, 16) {
-        return Err(Rule::NextNumber.at(item.place, 0));
-    }
+    let level = item.numbered(count, 16)?;
     if !known {
-        return Err(Rule::KnownLevel.at(item.place, record.n));
+        return Err(Rule::KnownLevel.at(item.place, level));
     }
-    Ok(record.n)
+    Ok(level)
 }
 
 // Reads an item with its trees into the table. Answers the cursor behind it.

@@ -1,9 +1,9 @@
 // Declassification permits with their trees.
 ghost use Rattle.std.specs.Prelude.{◌≡◌, ◌≤◌, length, IfOk, MatchResult};
 ghost use Rattle.records.specs.Records.{records};
-ghost use Rattle.records.specs.Rules.{Reading, refused, first as first_failing, judged};
+ghost use Rattle.records.specs.Rules.{Reading, refused, first as first_failing};
 ghost use Rattle.sheet.specs.Sheet.{Sheet};
-ghost use Rattle.sheet.specs.Checks.{permit_rules, mask_rules};
+ghost use Rattle.sheet.specs.Checks.{mask_rules};
 ghost use Rattle.sheet.specs.Reading.{ItemRead, ItemRefused};
 
 use crate::placed::Placed;
@@ -12,20 +12,6 @@ use crate::trees::TreeReader;
 use lattice::Lattice;
 use policy::has;
 use records::{Cursor, Refusal, Rule};
-
-// The permit's mask of conditions.
-fn check_permit(item: Placed, count: usize) -> Result<u32, Refusal>
-    ensures { result ≡ judged (permit_rules item.entry.record item.entry.place count) item.entry.record.n }
-{
-    let record = item.record;
-    if record.b != 0 || record.c != 0 {
-        return Err(Rule::SheetFields.at(item.place, 0));
-    }
-    if !item.is_next(count, 8) {
-        return Err(Rule::NextNumber.at(item.place, 0));
-    }
-    Ok(record.n)
-}
 
 // The conditions of a mask are declared.
 fn check_mask(mask: u32, conditions: usize, place: usize) -> Result<(), Refusal>
@@ -53,7 +39,7 @@ pub(crate) fn read_permit<'a, L: Lattice>(
         (λ e. ItemRefused (L.Lattice.lattice lattice.now) table.old item.entry.place item.entry.record (records item.entry.behind.left.now) e) }
 {
     let number = table.permits;
-    let conditions = check_permit(item, number)?;
+    let conditions = item.numbered(number, 8)?;
     check_mask(conditions, table.conditions, item.place)?;
     let trees = TreeReader {
         lattice,

@@ -1,8 +1,10 @@
 // A record where it stands in a sheet.
 ghost use Rattle.std.specs.Prelude.{◌≡◌, ◌+◌, ◌<◌, [], ◌∷◌, length, MatchOption, ◌==◌, ◌&&◌, nat_lt};
 ghost use Rattle.records.specs.Records.{records};
+ghost use Rattle.records.specs.Rules.{judged};
+ghost use Rattle.sheet.specs.Checks.{numbered_rules};
 
-use records::{Cursor, Record};
+use records::{Cursor, Record, Refusal, Rule};
 
 // A record, its place, and the cursor behind it.
 #[derive(Clone, Copy)]
@@ -36,5 +38,19 @@ impl<'a> Placed<'a> {
     {
         let number = self.record.a as usize;
         number == count && number < limit
+    }
+
+    // The named field of a condition or a permit, which has the next number after so many of its kind.
+    pub(crate) fn numbered(self, count: usize, limit: usize) -> Result<u32, Refusal>
+        ensures { result ≡ judged (numbered_rules self.entry.record self.entry.place count limit) self.entry.record.n }
+    {
+        let record = self.record;
+        if record.b != 0 || record.c != 0 {
+            return Err(Rule::SheetFields.at(self.place, 0));
+        }
+        if !self.is_next(count, limit) {
+            return Err(Rule::NextNumber.at(self.place, 0));
+        }
+        Ok(record.n)
     }
 }
