@@ -15,11 +15,11 @@ use lattice::Lattice;
 use records::{Cursor, Refusal, Rule};
 
 // A condition's level.
-fn check_condition(item: Placed, count: usize, known: bool) -> Result<u32, Refusal>
-    ensures { result ≡ judged (condition_rules item.entry.record item.entry.place count known) item.entry.record.n }
+fn check_condition<L: Lattice>(lattice: &L, item: Placed, count: usize) -> Result<u32, Refusal>
+    ensures { let r = item.entry.record in result ≡ judged (condition_rules r item.entry.place count ((L.Lattice.lattice lattice.now).known r.n)) r.n }
 {
     let level = item.numbered(count, 16)?;
-    if !known {
+    if !lattice.known(level) {
         return Err(Rule::KnownLevel.at(item.place, level));
     }
     Ok(level)
@@ -38,7 +38,7 @@ pub(crate) fn read_item<'a, L: Lattice>(
 {
     match item_at(item.record.letter, table.section()) {
         Some(Item::Condition) => {
-            let level = check_condition(item, table.conditions, lattice.known(item.record.n))?;
+            let level = check_condition(lattice, item, table.conditions)?;
             table.levels[table.conditions] = level;
             table.conditions += 1;
             Ok(item.behind)

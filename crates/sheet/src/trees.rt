@@ -1,7 +1,7 @@
 // The trees of policies.
-ghost use Rattle.std.specs.Prelude.{◌≡◌, ℕ, ◌<◌, length, IfOk, MatchResult};
+ghost use Rattle.std.specs.Prelude.{◌≡◌, ◌<◌, [], ◌∷◌, length, nat_le, IfOk, MatchResult};
 ghost use Rattle.records.specs.Records.{records};
-ghost use Rattle.records.specs.Rules.{judged};
+ghost use Rattle.records.specs.Rules.{judged, rule};
 ghost use Rattle.policy.specs.Rows.{blank};
 ghost use Rattle.sheet.specs.Checks.{leaf_rules, node_rules};
 ghost use Rattle.sheet.specs.Reading.{TreeRefused, TreeRead};
@@ -13,38 +13,13 @@ use lattice::Lattice;
 use policy::{Row, condition_bit};
 use records::{Cursor, Refusal, Rule};
 
-// A leaf's level.
-fn check_leaf(leaf: Placed, depth: u8, known: bool) -> Result<u32, Refusal>
-    ensures { result ≡ judged (leaf_rules leaf.entry.record leaf.entry.place depth known) leaf.entry.record.n }
+fn check_depth(place: usize, depth: u8) -> Result<(), Refusal>
+    ensures { result ≡ judged (rule 8 place 0 (nat_le depth 4) ∷ []) tt }
 {
-    let record = leaf.record;
-    if record.a != 0 || record.b != 0 || record.c != 0 {
-        return Err(Rule::SheetFields.at(leaf.place, 0));
-    }
-    if !known {
-        return Err(Rule::KnownLevel.at(leaf.place, record.n));
-    }
     if depth > 4 {
-        return Err(Rule::TreeDepth.at(leaf.place, 0));
+        return Err(Rule::TreeDepth.at(place, 0));
     }
-    Ok(record.n)
-}
-
-// An erasing node's condition.
-fn check_node(node: Placed, depth: u8, conditions: usize) -> Result<u8, Refusal>
-    ensures { result ≡ judged (node_rules node.entry.record node.entry.place depth conditions) node.entry.record.a }
-{
-    let record = node.record;
-    if record.b != 0 || record.c != 0 || record.n != 0 {
-        return Err(Rule::SheetFields.at(node.place, 0));
-    }
-    if record.a as usize >= conditions {
-        return Err(Rule::DeclaredCondition.at(node.place, record.a.into()));
-    }
-    if depth > 4 {
-        return Err(Rule::TreeDepth.at(node.place, 0));
-    }
-    Ok(record.a)
+    Ok(())
 }
 
 // What trees are read against: the lattice of their levels, and how many conditions are declared.
@@ -55,6 +30,36 @@ pub(crate) struct TreeReader<'l, L> {
 }
 
 impl<'l, L: Lattice> TreeReader<'l, L> {
+    // A leaf's level.
+    fn check_leaf(&self, leaf: Placed, depth: u8) -> Result<u32, Refusal>
+        ensures { let r = leaf.entry.record in result ≡ judged (leaf_rules r leaf.entry.place depth ((L.Lattice.lattice self.now.lattice.now).known r.n)) r.n }
+    {
+        let record = leaf.record;
+        if record.a != 0 || record.b != 0 || record.c != 0 {
+            return Err(Rule::SheetFields.at(leaf.place, 0));
+        }
+        if !self.lattice.known(record.n) {
+            return Err(Rule::KnownLevel.at(leaf.place, record.n));
+        }
+        check_depth(leaf.place, depth)?;
+        Ok(record.n)
+    }
+
+    // An erasing node's condition.
+    fn check_node(&self, node: Placed, depth: u8) -> Result<u8, Refusal>
+        ensures { let r = node.entry.record in result ≡ judged (node_rules r node.entry.place depth self.now.conditions) r.a }
+    {
+        let record = node.record;
+        if record.b != 0 || record.c != 0 || record.n != 0 {
+            return Err(Rule::SheetFields.at(node.place, 0));
+        }
+        if record.a as usize >= self.conditions {
+            return Err(Rule::DeclaredCondition.at(node.place, record.a.into()));
+        }
+        check_depth(node.place, depth)?;
+        Ok(record.a)
+    }
+
     // Reads a policy: its tree's row, and the cursor behind the tree.
     pub(crate) fn read<'a>(&self, cursor: Cursor<'a>) -> Result<(Row, Cursor<'a>), Refusal>
         ensures forward { IfOk result (λ p. length p.1.left.now < length cursor.entry.left.now) }
@@ -86,12 +91,12 @@ impl<'l, L: Lattice> TreeReader<'l, L> {
         };
         match part_at(first.record.letter) {
             Some(Part::Leaf) => {
-                let level = check_leaf(first, depth, self.lattice.known(first.record.n))?;
+                let level = self.check_leaf(first, depth)?;
                 row.add(level, guard);
                 Ok(first.behind)
             }
             Some(Part::Node) => {
-                let condition = check_node(first, depth, self.conditions)?;
+                let condition = self.check_node(first, depth)?;
                 row.pass_node(condition);
                 let later = self.read_part(first.behind, depth + 1, guard, row)?;
                 self.read_part(later, depth + 1, guard | condition_bit(condition), row)

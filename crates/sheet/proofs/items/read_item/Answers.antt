@@ -6,14 +6,12 @@ use Rattle.sheet.proofs.items.read_item.Goals as goal
 pub returns-in_err-level-in-Some-Condition-clause-answer : goal.returns-in_err-level-in-Some-Condition-clause-answer
 returns-in_err-level-in-Some-Condition-clause-answer g c =
     let l = condition_letter _ c.args.table.now.variables c.args.table.now.permits _ c.section.ensures (rw c.in-Some-Condition.field-0-is at c.in-Some-Condition.ensures) in
-    let h = rw c.known.ensures at c.in_err-level-in-Some-Condition.ensures in
-    refuses _ _ _ c.from_residual.ensures.1 (steps.condition_refused _ _ _ _ _ l.0 l.1 l.2 _ h)
+    refuses _ _ _ c.from_residual.ensures.1 (steps.condition_refused _ _ _ _ _ l.0 l.1 l.2 _ c.in_err-level-in-Some-Condition.ensures)
 
 pub returns-in_ok-level-in-Some-Condition-clause-answer : goal.returns-in_ok-level-in-Some-Condition-clause-answer
 returns-in_ok-level-in-Some-Condition-clause-answer g c =
     let l = condition_letter _ c.args.table.now.variables c.args.table.now.permits _ c.section.ensures (rw c.in-Some-Condition.field-0-is at c.in-Some-Condition.ensures) in
-    let h = rw c.known.ensures at c.in_ok-level-in-Some-Condition.ensures in
-    rw c.args.item.next (steps.condition_read _ _ _ _ _ l.0 l.1 l.2 _ h)
+    rw c.args.item.next (steps.condition_read _ _ _ _ _ l.0 l.1 l.2 _ c.in_ok-level-in-Some-Condition.ensures)
 
 pub returns-in-None-clause-answer : goal.returns-in-None-clause-answer
 returns-in-None-clause-answer g c =

@@ -18,14 +18,12 @@ returns-in-None-clause-answer g t c =
 pub returns-in_err-level-in-Some-Leaf-clause-answer : goal.returns-in_err-level-in-Some-Leaf-clause-answer
 returns-in_err-level-in-Some-Leaf-clause-answer g t c =
     let l = leaf_letter _ (rw c.in-Some-Leaf.field-0-is at c.in-Some-Leaf.ensures) in
-    let h = rw c.known.ensures at c.in_err-level-in-Some-Leaf.ensures in
-    refuses _ _ _ c.from_residual.ensures.1 (refused_as c.in-Some.ensures.0 c.in-Some.ensures.2 (steps.refused_leaf _ _ _ _ _ _ _ l h))
+    refuses _ _ _ c.from_residual.ensures.1 (refused_as c.in-Some.ensures.0 c.in-Some.ensures.2 (steps.refused_leaf _ _ _ _ _ _ _ l c.in_err-level-in-Some-Leaf.ensures))
 
 pub returns-in_ok-level-in-Some-Leaf-clause-answer : goal.returns-in_ok-level-in-Some-Leaf-clause-answer
 returns-in_ok-level-in-Some-Leaf-clause-answer g t c =
     let l = leaf_letter _ (rw c.in-Some-Leaf.field-0-is at c.in-Some-Leaf.ensures) in
-    let h = rw c.known.ensures at c.in_ok-level-in-Some-Leaf.ensures in
-    rw c.in-Some.first.next (read_as c.in-Some.ensures.0 c.in-Some.ensures.2 (steps.read_leaf _ _ _ _ _ _ _ _ _ _ l h c.add.ensures))
+    rw c.in-Some.first.next (read_as c.in-Some.ensures.0 c.in-Some.ensures.2 (steps.read_leaf _ _ _ _ _ _ _ _ _ _ l c.in_ok-level-in-Some-Leaf.ensures c.add.ensures))
 
 pub returns-in_err-condition-in-Some-Node-clause-answer : goal.returns-in_err-condition-in-Some-Node-clause-answer
 returns-in_err-condition-in-Some-Node-clause-answer g t c =
