@@ -12,7 +12,7 @@ use Rattle.sheet.specs.declared.rows.SheetTable.{SheetTable}
 use Rattle.sheet.specs.Sheet.{Sheet, empty}
 use Rattle.sheet.specs.Rules.{answer, whole_records, sheet_in}
 use Rattle.sheet.specs.Table.{Represents}
-use Rattle.sheet.specs.Reading.{Builds, closed, ItemRefused, ItemRead}
+use Rattle.sheet.specs.Reading.{Builds, closed, ItemRefused}
 use Rattle.sheet.specs.Reader.{SheetRead, SheetRefused}
 use Rattle.sheet.proofs.Acceptance.{acceptance}
 use Rattle.sheet.proofs.Closed as closing
@@ -38,14 +38,6 @@ module _ (C : Lattice) (bs : List ℕ) where
     builds = record { represents = e; room = omega (arith, e.conditions) };
     goes = cond-true (whole_records bs) _ _ (and_from (eqb (length bs % 8) 0) (leb (length bs) 4096) (eq-eqb _ _ m) (le-leb _ _ l));
   }
-
-  pub far_more : (t u : SheetTable) (place next : ℕ) (left : List Record) (r : Record) (rs rest : List Record) → left ≡ r ∷ rs → Far t place left → ItemRead C t u place r rs next rest → Far u next rest
-  far_more t u place next left r rs rest e f i =
-      record {
-        sheet = i.sheet f.sheet;
-        builds = i.builds f.sheet f.builds;
-        goes = f.goes ∙ ap (answer C (closed place f.sheet)) e ∙ i.goes f.sheet f.builds;
-      }
 
   pub far_refused : (t : SheetTable) (place : ℕ) (left : List Record) (r : Record) (rs : List Record) (x : Refusal) → left ≡ r ∷ rs → Far t place left → ItemRefused C t place r rs x → SheetRefused C bs x
   far_refused t place left r rs x e f i =
