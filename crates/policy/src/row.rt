@@ -7,14 +7,14 @@ use crate::mask::condition_bit;
 use lattice::Lattice;
 
 /// A leaf of a policy: its level, and as a mask the conditions on whose later side it lies.
-#[derive(Clone, Copy)]
+#[derive(Clone, Copy, Default)]
 pub struct GuardedLevel {
     pub level: u32,
     pub guard: u16,
 }
 
 /// A policy as its guarded levels, at most eight, and as a mask the conditions that wipe a variable of it.
-#[derive(Clone, Copy)]
+#[derive(Clone, Copy, Default)]
 pub struct Row {
     pub levels: [GuardedLevel; 8],
     pub count: usize,
@@ -26,11 +26,7 @@ impl Row {
     pub fn new() -> Row
         ensures { result ≡ blank }
     {
-        Row {
-            levels: [GuardedLevel { level: 0, guard: 0 }; 8],
-            count: 0,
-            wipers: 0,
-        }
+        Row::default()
     }
 
     /// Adds a leaf; a full row stays as it is.

@@ -1,4 +1,7 @@
+use records::Refusal;
 use std::alloc::{AllocError, Global};
+use std::process::Abort;
+use std::test::Fail;
 
 // The bytes of a sheet or a program, record by record.
 #[derive(Drop)]
@@ -41,5 +44,20 @@ impl Draft {
 
     pub(crate) fn erase(&mut self, condition: u8) -> Result<(), AllocError> {
         self.put(b'E', condition, 0, 0)
+    }
+}
+
+// The reader's answer is this refusal.
+pub(crate) fn refused<T: Drop>(
+    rt: &impl Abort,
+    answer: Result<T, Refusal>,
+    expected: Refusal,
+) -> Result<(), Fail> {
+    match answer {
+        Ok(_) => Err(Fail::new("accepted")),
+        Err(refusal) => {
+            assert_eq!(rt; refusal, expected);
+            Ok(())
+        },
     }
 }

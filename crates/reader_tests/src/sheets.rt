@@ -1,17 +1,34 @@
-use crate::draft::Draft;
+use crate::draft::{self, Draft};
 use lattice::{Chain, ReaderSets};
 use records::Refusal;
-use sheet::read_sheet;
+use sheet::{SheetTable, read_sheet};
+use std::alloc::AllocError;
 use std::process::Abort;
 use std::test::Fail;
 
+impl Draft {
+    fn sheet(&self) -> Result<SheetTable, Refusal> {
+        read_sheet(&Chain { top: 3 }, self.bytes.as_slice())
+    }
+
+    // A tree of two nodes and three leaves.
+    fn nested(&mut self) -> Result<(), AllocError> {
+        for _ in 0..2 {
+            self.erase(0)?;
+            self.leaf(0)?;
+        }
+        self.leaf(0)
+    }
+}
+
 fn accepted(draft: &Draft) -> Result<(), Fail> {
-    match read_sheet(&Chain { top: 3 }, draft.bytes.as_slice()) {
+    match draft.sheet() {
         Ok(_) => Ok(()),
         Err(_) => Err(Fail::new("refused")),
     }
 }
 
+// By number: an answer's line prints it.
 fn refused(
     rt: &impl Abort,
     draft: &Draft,
@@ -19,20 +36,7 @@ fn refused(
     place: usize,
     detail: u32,
 ) -> Result<(), Fail> {
-    match read_sheet(&Chain { top: 3 }, draft.bytes.as_slice()) {
-        Ok(_) => Err(Fail::new("accepted")),
-        Err(refusal) => {
-            assert_eq!(rt;
-                refusal,
-                Refusal {
-                    number,
-                    place,
-                    detail,
-                }
-            );
-            Ok(())
-        },
-    }
+    draft::refused(rt, draft.sheet(), Refusal::new(number, place, detail))
 }
 
 #[test]
@@ -48,19 +52,11 @@ fn the_length_is_whole_records_and_at_most_4096(rt: HostRuntime) -> Result<(), F
     }
     for number in 0..64 {
         draft.variable(number, 0)?;
-        draft.erase(0)?;
-        draft.leaf(0)?;
-        draft.erase(0)?;
-        draft.leaf(0)?;
-        draft.leaf(0)?;
+        draft.nested()?;
     }
     for number in 0..8 {
         draft.permit(number, 1)?;
-        draft.erase(0)?;
-        draft.leaf(0)?;
-        draft.erase(0)?;
-        draft.leaf(0)?;
-        draft.leaf(0)?;
+        draft.nested()?;
         draft.leaf(0)?;
     }
     assert_eq!(rt; draft.bytes.len(), 3648);
@@ -146,20 +142,11 @@ fn levels_are_known(rt: HostRuntime) -> Result<(), Fail> {
     leaf.variable(0, 0)?;
     leaf.leaf(70000)?;
     refused(&rt, &leaf, 6, 1, 70000)?;
-    match read_sheet(&ReaderSets, leaf.bytes.as_slice()) {
-        Ok(_) => Err(Fail::new("accepted")),
-        Err(refusal) => {
-            assert_eq!(rt;
-                refusal,
-                Refusal {
-                    number: 6,
-                    place: 1,
-                    detail: 70000,
-                }
-            );
-            Ok(())
-        },
-    }
+    draft::refused(
+        &rt,
+        read_sheet(&ReaderSets, leaf.bytes.as_slice()),
+        Refusal::new(6, 1, 70000),
+    )
 }
 
 #[test]

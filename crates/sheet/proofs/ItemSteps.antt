@@ -1,5 +1,5 @@
 -- Any item of a sheet against the rules. Assumes nothing.
-use Rattle.std.proofs.Common.{◌≡◌, ℕ, ◌+◌, ◌<◌, Bool, false, ◌&&◌, eqb, ltb, List, [], ◌∷◌, length, get_or, set, Ok, Err, sym, refl, ap, ◌∙◌, ap₂, inl, inr, arith, length-set}
+use Rattle.std.proofs.Common.{◌≡◌, ℕ, ◌+◌, ◌<◌, false, ◌&&◌, eqb, ltb, List, [], ◌∷◌, length, set, Ok, Err, sym, refl, ap, ◌∙◌, ap₂, inl, inr, arith, length-set}
 use Rattle.std.proofs.lemmas.List.{length-append}
 use Rattle.std.proofs.lemmas.Bool.{and_parts, eqb-true, ltb-true, cases_eq, cond-false}
 use Rattle.lattice.specs.Lattice.{Lattice}
@@ -11,9 +11,8 @@ use Rattle.records.proofs.Firsts.{first_holds, judged_ok, judged_err}
 use Rattle.sheet.specs.declared.rows.SheetTable.{SheetTable}
 use Rattle.sheet.specs.Sheet.{Sheet, Variable, Permit}
 use Rattle.sheet.specs.Rules.{answer, none}
-use Rattle.sheet.specs.Table.{Represents}
 use Rattle.sheet.specs.Checks.{condition_rules}
-use Rattle.sheet.specs.Reading.{Tabulated, closed, with_condition, ItemRefused, ItemRead}
+use Rattle.sheet.specs.Reading.{Builds, closed, with_condition, ItemRefused, ItemRead}
 use Rattle.sheet.proofs.Closed as closing
 use Rattle.sheet.proofs.Tables.{grows}
 use Rattle.sheet.proofs.VariableSteps.{nothing}
@@ -26,14 +25,14 @@ late : (xs : List Variable) (ys : List Permit) → (length xs ≡ 0 → length y
 late [] ys f = something ys (f refl)
 late (x ∷ xs) ys f = refl
 
-module _ (C : Lattice) (known : List Bool) (before : SheetTable) (place : ℕ) (r : Record) (rs : List Record) where
+module _ (C : Lattice) (before : SheetTable) (place : ℕ) (r : Record) (rs : List Record) where
   -- a letter that may not stand here
-  pub refused_letter : (r.letter ≡ 67 → before.variables ≡ 0 → before.permits ≡ 0 → ⊥) → (r.letter ≡ 86 → before.permits ≡ 0 → ⊥) → (r.letter ≡ 82 → ⊥) → ItemRefused C known before place r rs (refusal 3 place 0)
+  pub refused_letter : (r.letter ≡ 67 → before.variables ≡ 0 → before.permits ≡ 0 → ⊥) → (r.letter ≡ 86 → before.permits ≡ 0 → ⊥) → (r.letter ≡ 82 → ⊥) → ItemRefused C before place r rs (refusal 3 place 0)
   refused_letter c v p = record {
-    says = λ sh t told. elim (cases_eq r.letter 67) [
-      | inl e ↦ closing.condition_step C place sh r rs e ∙ cond-false _ _ _ (late sh.variables sh.permits (λ x y. c e (t.variables ∙ x) (t.permits ∙ y)))
+    says = λ sh t. elim (cases_eq r.letter 67) [
+      | inl e ↦ closing.condition_step C place sh r rs e ∙ cond-false _ _ _ (late sh.variables sh.permits (λ x y. c e (t.represents.variables ∙ x) (t.represents.permits ∙ y)))
       | inr a ↦ elim (cases_eq r.letter 86) [
-        | inl e ↦ closing.variable_step C place sh r rs e ∙ cond-false _ _ _ (something sh.permits (λ y. v e (t.permits ∙ y)))
+        | inl e ↦ closing.variable_step C place sh r rs e ∙ cond-false _ _ _ (something sh.permits (λ y. v e (t.represents.permits ∙ y)))
         | inr b ↦ closing.stranger C place sh r rs a b p
       ]
     ];
@@ -41,18 +40,18 @@ module _ (C : Lattice) (known : List Bool) (before : SheetTable) (place : ℕ) (
 
   module _ (l : r.letter ≡ 67) (v : before.variables ≡ 0) (p : before.permits ≡ 0) where
     abbrev condition_asked : List Rule
-    condition_asked = condition_rules r place before.conditions (get_or known place false)
+    condition_asked = condition_rules r place before.conditions (C.known r.n)
 
-    asks : (sh : Sheet) → Represents before sh → Tabulated C known place (r ∷ rs) → answer C (closed place sh) (r ∷ rs) ≡ first condition_asked (answer C (closed (place + 1) (with_condition sh r.n)) rs)
-    asks sh t told =
+    asks : (sh : Sheet) → Builds before sh → answer C (closed place sh) (r ∷ rs) ≡ first condition_asked (answer C (closed (place + 1) (with_condition sh r.n)) rs)
+    asks sh t =
         let next = answer C (closed (place + 1) (with_condition sh r.n)) rs in
         closing.condition_step C place sh r rs l
         ∙ ap₂ (λ (x : List Variable) (y : List Permit). first (rule 3 place 0 (none x && none y) ∷ condition_rules r place (length sh.conditions) (C.known r.n)) (answer C (closed (place + 1) (with_condition sh r.n)) rs))
-        (nothing sh.variables (sym t.variables ∙ v)) (nothing sh.permits (sym t.permits ∙ p))
-        ∙ ap₂ (λ n b. first (condition_rules r place n b) (answer C (closed (place + 1) (with_condition sh r.n)) rs)) (sym t.conditions) (sym told.0)
+        (nothing sh.variables (sym t.represents.variables ∙ v)) (nothing sh.permits (sym t.represents.permits ∙ p))
+        ∙ ap (λ n. first (condition_rules r place n (C.known r.n)) (answer C (closed (place + 1) (with_condition sh r.n)) rs)) (sym t.represents.conditions)
 
-    pub condition_refused : (e : Refusal) → Err e ≡ judged condition_asked r.n → ItemRefused C known before place r rs e
-    condition_refused e h = record { says = λ sh t told. asks sh t told ∙ judged_err condition_asked r.n e h _ }
+    pub condition_refused : (e : Refusal) → Err e ≡ judged condition_asked r.n → ItemRefused C before place r rs e
+    condition_refused e h = record { says = λ sh t. asks sh t ∙ judged_err condition_asked r.n e h _ }
 
     module _ (level : ℕ) (h : Ok level ≡ judged condition_asked r.n) where
       abbrev after : SheetTable
@@ -70,21 +69,23 @@ module _ (C : Lattice) (known : List Bool) (before : SheetTable) (place : ℕ) (
           let i = and_parts (eqb r.a before.conditions) (ltb r.a 16) (judged_ok condition_asked r.n level h).1.1.0 in
           omega (arith, eqb-true r.a before.conditions i.0, ltb-true r.a 16 i.1)
 
-      pub condition_read : ItemRead C known before after place r rs (place + 1) rs
+      pub condition_read : ItemRead C before after place r rs (place + 1) rs
       condition_read = record {
         sheet = λ sh. with_condition sh level;
-        tabulated = λ told. told.1;
-        represents = λ sh t. record {
-          sizes = (length-set before.levels before.conditions level ∙ t.sizes.0, t.sizes.1, t.sizes.2);
-          conditions = omega (arith, t.conditions, length-append sh.conditions (level ∷ []));
-          levels = grows (λ y x. y ≡ x) before.levels sh.conditions level 0 level 0 before.conditions t.conditions (omega (arith, small, t.sizes.0)) t.levels refl;
-          variables = t.variables;
-          rows = t.rows;
-          beyond = t.beyond;
-          permits = t.permits;
-          grants = t.grants;
+        builds = λ sh b. let t = b.represents in record {
+          represents = record {
+            sizes = (length-set before.levels before.conditions level ∙ t.sizes.0, t.sizes.1, t.sizes.2);
+            conditions = omega (arith, t.conditions, length-append sh.conditions (level ∷ []));
+            levels = grows (λ y x. y ≡ x) before.levels sh.conditions level 0 level 0 before.conditions t.conditions (omega (arith, small, t.sizes.0)) t.levels refl;
+            variables = t.variables;
+            rows = t.rows;
+            beyond = t.beyond;
+            permits = t.permits;
+            grants = t.grants;
+          };
+          room = omega (arith, small);
         };
-        goes = λ sh t told.
+        goes = λ sh t.
             let p = judged_ok condition_asked r.n level h in
-            asks sh t told ∙ first_holds condition_asked _ p.1 ∙ ap (λ n. answer C (closed (place + 1) (with_condition sh n)) rs) (sym p.0);
+            asks sh t ∙ first_holds condition_asked _ p.1 ∙ ap (λ n. answer C (closed (place + 1) (with_condition sh n)) rs) (sym p.0);
       }

@@ -1,4 +1,5 @@
 pub mod Records
+pub mod Refusing
 pub mod Steps
 pub mod Closed
 pub mod Accepted
@@ -6,7 +7,6 @@ pub mod Accepting
 pub mod Acceptance
 pub mod Tables
 pub mod TreeSteps
-pub mod Tabulating
 pub mod LetterSteps
 pub mod VariableSteps
 pub mod PermitSteps

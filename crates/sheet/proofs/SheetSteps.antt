@@ -1,5 +1,5 @@
 -- The whole sheet, item by item. Assumes nothing.
-use Rattle.std.proofs.Common.{◌≡◌, ℕ, ◌%◌, ◌≤◌, Bool, false, eqb, leb, List, [], ◌∷◌, length, sym, ap, ◌∙◌, subst}
+use Rattle.std.proofs.Common.{◌≡◌, ℕ, ◌%◌, ◌≤◌, false, eqb, leb, List, [], ◌∷◌, length, sym, ap, ◌∙◌, arith}
 use Rattle.std.proofs.lemmas.Bool.{cond-true, cond-false, and_from, eq-eqb, le-leb}
 use Rattle.lattice.specs.Lattice.{Lattice}
 use Rattle.records.specs.declared.Record.{Record}
@@ -12,7 +12,7 @@ use Rattle.sheet.specs.declared.rows.SheetTable.{SheetTable}
 use Rattle.sheet.specs.Sheet.{Sheet, empty}
 use Rattle.sheet.specs.Rules.{answer, whole_records, sheet_in}
 use Rattle.sheet.specs.Table.{Represents}
-use Rattle.sheet.specs.Reading.{Tabulated, closed, ItemRefused, ItemRead}
+use Rattle.sheet.specs.Reading.{Builds, closed, ItemRefused}
 use Rattle.sheet.specs.Reader.{SheetRead, SheetRefused}
 use Rattle.sheet.proofs.Acceptance.{acceptance}
 use Rattle.sheet.proofs.Closed as closing
@@ -24,36 +24,24 @@ refused_sheet C bs e h = record {
   invalid = λ sh v w. refused_accepted e sh (sym h ∙ ap (sheet_in C) w ∙ (acceptance C).all sh v);
 }
 
-module _ (C : Lattice) (known : List Bool) (bs : List ℕ) where
+module _ (C : Lattice) (bs : List ℕ) where
   -- What the records so far came to.
   pub record Far (t : SheetTable) (place : ℕ) (left : List Record) : Type 0 where
     pub sheet : Sheet
-    pub tabulated : Tabulated C known place left
-    pub represents : Represents t sheet
+    pub builds : Builds t sheet
     pub goes : sheet_in C bs ≡ answer C (closed place sheet) left
 
-  pub far_start : (t : SheetTable) → length bs % 8 ≡ 0 → length bs ≤ 4096 → Tabulated C known 0 (records bs) → Represents t empty → Far t 0 (records bs)
+  pub far_start : (t : SheetTable) → length bs % 8 ≡ 0 → length bs ≤ 4096 → Represents t empty → Far t 0 (records bs)
   unfolding sheet_in
-  far_start t m l told e = record {
+  far_start t m l e = record {
     sheet = empty;
-    tabulated = told;
-    represents = e;
+    builds = record { represents = e; room = omega (arith, e.conditions) };
     goes = cond-true (whole_records bs) _ _ (and_from (eqb (length bs % 8) 0) (leb (length bs) 4096) (eq-eqb _ _ m) (le-leb _ _ l));
   }
 
-  pub far_more : (t u : SheetTable) (place next : ℕ) (left : List Record) (r : Record) (rs rest : List Record) → left ≡ r ∷ rs → Far t place left → ItemRead C known t u place r rs next rest → Far u next rest
-  far_more t u place next left r rs rest e f i =
-      let told = subst (Tabulated C known place) e f.tabulated in
-      record {
-        sheet = i.sheet f.sheet;
-        tabulated = i.tabulated told;
-        represents = i.represents f.sheet f.represents;
-        goes = f.goes ∙ ap (answer C (closed place f.sheet)) e ∙ i.goes f.sheet f.represents told;
-      }
-
-  pub far_refused : (t : SheetTable) (place : ℕ) (left : List Record) (r : Record) (rs : List Record) (x : Refusal) → left ≡ r ∷ rs → Far t place left → ItemRefused C known t place r rs x → SheetRefused C bs x
+  pub far_refused : (t : SheetTable) (place : ℕ) (left : List Record) (r : Record) (rs : List Record) (x : Refusal) → left ≡ r ∷ rs → Far t place left → ItemRefused C t place r rs x → SheetRefused C bs x
   far_refused t place left r rs x e f i =
-      refused_sheet C bs x (f.goes ∙ ap (answer C (closed place f.sheet)) e ∙ i.says f.sheet f.represents (subst (Tabulated C known place) e f.tabulated))
+      refused_sheet C bs x (f.goes ∙ ap (answer C (closed place f.sheet)) e ∙ i.says f.sheet f.builds)
 
   pub far_end : (t : SheetTable) (place : ℕ) (left : List Record) → Each Byte bs → left ≡ [] → Far t place left → SheetRead C bs t
   far_end t place left b e f =
@@ -65,7 +53,7 @@ module _ (C : Lattice) (known : List Bool) (bs : List ℕ) where
         valid = v.0;
         writes = v.1;
         unique = λ sh w e. (acceptance C).unique sh f.sheet w v.0 (sym e ∙ v.1);
-        represents = f.represents;
+        represents = f.builds.represents;
       }
 
 pub wrong_length : (C : Lattice) (bs : List ℕ) → whole_records bs ≡ false → SheetRefused C bs (refusal 2 0 0)

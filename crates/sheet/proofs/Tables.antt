@@ -1,17 +1,22 @@
 -- Tables of a sheet. Assumes nothing.
-use Rattle.std.proofs.Common.{◌≡◌, ℕ, zero, suc, ◌<◌, ◌≤◌, ◌≢◌, List, [], ◌∷◌, ◌++◌, length, get_or, set, replicate, sym, refl, ap, ◌∙◌, subst, inl, inr, arith}
+use Rattle.std.proofs.Common.{◌≡◌, ℕ, ◌<◌, ◌≤◌, List, [], ◌∷◌, ◌++◌, length, get_or, set, replicate, sym, refl, ap, ◌∙◌, subst, inl, inr, arith}
 use Rattle.std.proofs.lemmas.List.{length-append, get_or_append_left, get_or-set_same, get_or-set_other}
 use Rattle.std.proofs.lemmas.Bool.{cases_eq}
+use Rattle.std.proofs.lemmas.Grind.{common_steps}
+use Rattle.std.specs.Array.{AllOfLen}
+use Rattle.policy.specs.declared.row.Row.{Row}
+use Rattle.policy.specs.Rows.{blank}
 use Rattle.sheet.specs.declared.rows.VariableRow.{VariableRow}
 use Rattle.sheet.specs.declared.rows.Grant.{Grant}
 use Rattle.sheet.specs.Sheet.{empty}
 use Rattle.sheet.specs.Table.{blank_variable, Represents}
 
+-- a row of defaults
+pub default_row : (r : Row) → AllOfLen (λ x. (x.level ≡ 0) × (x.guard ≡ 0)) r.levels 8 → r.count ≡ 0 → r.wipers ≡ 0 → r ≡ blank
+default_row r h c w = grind (arith, common_steps)
+
 all_alike : {X : Type 0} (n v : ℕ) (d : X) → get_or (replicate n d) v d ≡ d
-all_alike zero zero d = refl
-all_alike zero (suc v) d = refl
-all_alike (suc n) zero d = refl
-all_alike (suc n) (suc v) d = all_alike n v d
+all_alike n v d = grind (arith, common_steps)
 
 pub represents_empty : (row : VariableRow) (grants : List Grant) → row ≡ blank_variable → length grants ≡ 8
     → Represents record { conditions = 0; levels = replicate 16 0; variables = 0; rows = replicate 64 row; permits = 0; grants = grants } empty
@@ -27,8 +32,7 @@ represents_empty row grants e l = record {
 }
 
 pub at_end : {X : Type 0} (xs : List X) (x d : X) → get_or (xs ++ x ∷ []) (length xs) d ≡ x
-at_end [] x d = refl
-at_end (y ∷ xs) x d = at_end xs x d
+at_end xs x d = grind (arith, common_steps)
 
 -- one more in a table and in a list
 pub grows : {X Y : Type 0} (R : Y → X → Type 0) (ys : List Y) (xs : List X) (y dy : Y) (x dx : X) (n : ℕ) → n ≡ length xs → n < length ys
@@ -44,7 +48,4 @@ grows R ys xs y dy x dx n e l f p k h =
 
 -- the places beyond the last item stay as they were
 pub stays_beyond : {X Y : Type 0} (ys : List Y) (xs : List X) (y d : Y) (x : X) (n : ℕ) → n ≡ length xs → ((k : ℕ) → length xs ≤ k → get_or ys k d ≡ d) → (k : ℕ) → length (xs ++ x ∷ []) ≤ k → get_or (set ys n y) k d ≡ d
-stays_beyond ys xs y d x n e f k h =
-    let l : length xs < k = omega (arith, h, length-append xs (x ∷ [])) in
-    let ne : k ≢ n = λ q. absurd (omega (arith, l, q, e)) in
-    get_or-set_other ys n k y d ne ∙ f k (omega arith)
+stays_beyond ys xs y d x n e f k h = grind (arith, common_steps)

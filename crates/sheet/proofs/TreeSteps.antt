@@ -1,5 +1,5 @@
 -- What is read of a tree, one record on. Assumes nothing.
-use Rattle.std.proofs.Common.{◌≡◌, ℕ, ◌+◌, ◌≤◌, Bool, false, List, [], ◌∷◌, ◌++◌, length, get_or, Ok, Err, sym, refl, ap, ◌∙◌, subst, arith}
+use Rattle.std.proofs.Common.{◌≡◌, ℕ, ◌+◌, List, [], ◌∷◌, ◌++◌, length, Ok, Err, sym, refl, ap, ◌∙◌, arith}
 use Rattle.std.proofs.lemmas.Bool.{leb-true, ltb-true}
 use Rattle.std.proofs.lemmas.List.{length-append, append_assoc}
 use Rattle.lattice.specs.Lattice.{Lattice}
@@ -15,50 +15,37 @@ use Rattle.sheet.specs.Sheet.{Sheet}
 use Rattle.sheet.specs.Written.{tree, erase_record}
 use Rattle.sheet.specs.Rules.{Owner, answer, joined}
 use Rattle.sheet.specs.Checks.{leaf_rules, node_rules}
-use Rattle.sheet.specs.Reading.{Tabulated, at, TreeRefused, TreeRead}
+use Rattle.sheet.specs.Reading.{at, TreeRefused, TreeRead}
 use Rattle.sheet.proofs.Records.{leaf_is, node_is}
 use Rattle.sheet.proofs.Steps as steps
 
-pub node_shallow : (r : Record) (place depth conditions c : ℕ) → Ok c ≡ judged (node_rules r place depth conditions) r.a → depth ≤ 4
-node_shallow r place depth conditions c h = leb-true depth 4 (judged_ok (node_rules r place depth conditions) r.a c h).1.1.1.0
+-- a tree at the first of the records
+pub refused_as : {C : Lattice} {conditions place start depth : ℕ} {rs xs : List Record} {e : Refusal} → start ≡ place → rs ≡ xs → TreeRefused C conditions start depth xs e → TreeRefused C conditions place depth rs e
+refused_as p q f = rw (sym p, q) f
 
--- the answers are tabulated also for what stands after a part
-pub tabulated_after : (C : Lattice) (known : List Bool) (place : ℕ) (xs ys : List Record) → Tabulated C known place (xs ++ ys) → Tabulated C known (place + length xs) ys
-tabulated_after C known place [] ys h = subst (λ p. Tabulated C known p ys) (omega arith) h
-tabulated_after C known place (x ∷ xs) ys h = subst (λ p. Tabulated C known p ys) (omega arith) (tabulated_after C known (place + 1) xs ys h.1)
+pub read_as : {C : Lattice} {conditions place start depth guard next : ℕ} {rs xs rest : List Record} {before after : Row} → start ≡ place → rs ≡ xs → TreeRead C conditions start depth guard xs before after next rest → TreeRead C conditions place depth guard rs before after next rest
+read_as p q f = rw (sym p, q) f
 
--- and after a tree
-pub tabulated_tree : (C : Lattice) (known : List Bool) (place next : ℕ) (p : Policy) (rs rest : List Record) → rs ≡ tree p ++ rest → next ≡ place + length (tree p) → Tabulated C known place rs → Tabulated C known next rest
-tabulated_tree C known place next p rs rest e n h = subst (λ q. Tabulated C known q rest) (sym n) (tabulated_after C known place (tree p) rest (subst (Tabulated C known place) e h))
-
-pub refused_as : {known : List Bool} {conditions place depth : ℕ} {rs xs : List Record} {e : Refusal} → rs ≡ xs → TreeRefused known conditions place depth xs e → TreeRefused known conditions place depth rs e
-refused_as {known = known} {conditions = conditions} {place = place} {depth = depth} {e = e} q f = subst (λ x. TreeRefused known conditions place depth x e) (sym q) f
-
-pub read_as : {known : List Bool} {conditions place depth guard next : ℕ} {rs xs rest : List Record} {before after : Row} → rs ≡ xs → TreeRead known conditions place depth guard xs before after next rest → TreeRead known conditions place depth guard rs before after next rest
-read_as {known = known} {conditions = conditions} {place = place} {depth = depth} {guard = guard} {next = next} {rest = rest} {before = before} {after = after} q f = subst (λ x. TreeRead known conditions place depth guard x before after next rest) (sym q) f
-
-module _ (known : List Bool) (conditions place depth : ℕ) where
-  pub refused_end : TreeRefused known conditions place depth [] (refusal 3 place 0)
-  refused_end = record { says = λ C told sh owner ds trees k. steps.end C place sh owner depth ds trees }
+module _ (C : Lattice) (conditions place depth : ℕ) where
+  pub refused_end : TreeRefused C conditions place depth [] (refusal 3 place 0)
+  refused_end = record { says = λ sh owner ds trees k. steps.end C place sh owner depth ds trees }
 
   module _ (r : Record) (rs : List Record) where
-    pub refused_letter : (r.letter ≡ 76 → ⊥) → (r.letter ≡ 69 → ⊥) → TreeRefused known conditions place depth (r ∷ rs) (refusal 3 place 0)
-    refused_letter p q = record { says = λ C told sh owner ds trees k. steps.stranger C place sh owner depth ds trees r rs p q }
+    pub refused_letter : (r.letter ≡ 76 → ⊥) → (r.letter ≡ 69 → ⊥) → TreeRefused C conditions place depth (r ∷ rs) (refusal 3 place 0)
+    refused_letter p q = record { says = λ sh owner ds trees k. steps.stranger C place sh owner depth ds trees r rs p q }
 
     abbrev leaf_asked : List Rule
-    leaf_asked = leaf_rules r place depth (get_or known place false)
+    leaf_asked = leaf_rules r place depth (C.known r.n)
 
-    leaf_asks : (C : Lattice) → Tabulated C known place (r ∷ rs) → (sh : Sheet) (owner : Owner) (ds : List ℕ) (trees : List Policy → List Policy) → r.letter ≡ 76
+    leaf_asks : (sh : Sheet) (owner : Owner) (ds : List ℕ) (trees : List Policy → List Policy) → r.letter ≡ 76
         → answer C (at place sh owner (depth ∷ ds) trees) (r ∷ rs) ≡ first leaf_asked (answer C (at (place + 1) sh owner ds (λ ps. trees (leaf r.n ∷ ps))) rs)
-    leaf_asks C told sh owner ds trees l =
-        steps.leaf_step C place sh owner depth ds trees r rs l
-        ∙ ap (λ b. first (leaf_rules r place depth b) (answer C (at (place + 1) sh owner ds (λ ps. trees (leaf r.n ∷ ps))) rs)) (sym told.0)
+    leaf_asks sh owner ds trees l = steps.leaf_step C place sh owner depth ds trees r rs l
 
-    pub refused_leaf : (e : Refusal) → r.letter ≡ 76 → Err e ≡ judged leaf_asked r.n → TreeRefused known conditions place depth (r ∷ rs) e
-    refused_leaf e l h = record { says = λ C told sh owner ds trees k. leaf_asks C told sh owner ds trees l ∙ judged_err leaf_asked r.n e h _ }
+    pub refused_leaf : (e : Refusal) → r.letter ≡ 76 → Err e ≡ judged leaf_asked r.n → TreeRefused C conditions place depth (r ∷ rs) e
+    refused_leaf e l h = record { says = λ sh owner ds trees k. leaf_asks sh owner ds trees l ∙ judged_err leaf_asked r.n e h _ }
 
     pub read_leaf : (level guard : ℕ) (before after : Row) → r.letter ≡ 76 → Ok level ≡ judged leaf_asked r.n → after ≡ with_level before level guard
-        → TreeRead known conditions place depth guard (r ∷ rs) before after (place + 1) rs
+        → TreeRead C conditions place depth guard (r ∷ rs) before after (place + 1) rs
     unfolding tree filled
     read_leaf level guard before after l h a =
         let p = judged_ok leaf_asked r.n level h in
@@ -68,48 +55,45 @@ module _ (known : List Bool) (conditions place depth : ℕ) where
           stands = ap (λ x. x ∷ rs) (leaf_is r l p.1.0);
           reached = refl;
           row = a ∙ ap (λ x. with_level before x guard) p.0;
-          goes = λ C told sh owner ds trees k. leaf_asks C told sh owner ds trees l ∙ first_holds leaf_asked _ p.1;
+          goes = λ sh owner ds trees k. leaf_asks sh owner ds trees l ∙ first_holds leaf_asked _ p.1;
         }
 
     abbrev node_asked : List Rule
     node_asked = node_rules r place depth conditions
 
-    node_asks : (C : Lattice) (sh : Sheet) (owner : Owner) (ds : List ℕ) (trees : List Policy → List Policy) → length sh.conditions ≡ conditions → r.letter ≡ 69
+    node_asks : (sh : Sheet) (owner : Owner) (ds : List ℕ) (trees : List Policy → List Policy) → length sh.conditions ≡ conditions → r.letter ≡ 69
         → answer C (at place sh owner (depth ∷ ds) trees) (r ∷ rs) ≡ first node_asked (answer C (at (place + 1) sh owner ((depth + 1) ∷ (depth + 1) ∷ ds) (λ ps. trees (joined r.a ps))) rs)
-    node_asks C sh owner ds trees k l =
+    node_asks sh owner ds trees k l =
         steps.node_step C place sh owner depth ds trees r rs l
         ∙ ap (λ n. first (node_rules r place depth n) (answer C (at (place + 1) sh owner ((depth + 1) ∷ (depth + 1) ∷ ds) (λ ps. trees (joined r.a ps))) rs)) k
 
-    pub refused_node : (e : Refusal) → r.letter ≡ 69 → Err e ≡ judged node_asked r.a → TreeRefused known conditions place depth (r ∷ rs) e
-    refused_node e l h = record { says = λ C told sh owner ds trees k. node_asks C sh owner ds trees k l ∙ judged_err node_asked r.a e h _ }
+    pub refused_node : (e : Refusal) → r.letter ≡ 69 → Err e ≡ judged node_asked r.a → TreeRefused C conditions place depth (r ∷ rs) e
+    refused_node e l h = record { says = λ sh owner ds trees k. node_asks sh owner ds trees k l ∙ judged_err node_asked r.a e h _ }
 
     module _ (condition : ℕ) (l : r.letter ≡ 69) (h : Ok condition ≡ judged node_asked r.a) where
-      node_goes : (C : Lattice) (sh : Sheet) (owner : Owner) (ds : List ℕ) (trees : List Policy → List Policy) → length sh.conditions ≡ conditions
+      node_goes : (sh : Sheet) (owner : Owner) (ds : List ℕ) (trees : List Policy → List Policy) → length sh.conditions ≡ conditions
           → answer C (at place sh owner (depth ∷ ds) trees) (r ∷ rs) ≡ answer C (at (place + 1) sh owner ((depth + 1) ∷ (depth + 1) ∷ ds) (λ ps. trees (joined r.a ps))) rs
-      node_goes C sh owner ds trees k = node_asks C sh owner ds trees k l ∙ first_holds node_asked _ (judged_ok node_asked r.a condition h).1
+      node_goes sh owner ds trees k = node_asks sh owner ds trees k l ∙ first_holds node_asked _ (judged_ok node_asked r.a condition h).1
 
-      pub refused_present : (e : Refusal) → TreeRefused known conditions (place + 1) (depth + 1) rs e → TreeRefused known conditions place depth (r ∷ rs) e
+      pub refused_present : (e : Refusal) → TreeRefused C conditions (place + 1) (depth + 1) rs e → TreeRefused C conditions place depth (r ∷ rs) e
       refused_present e f = record {
-        says = λ C told sh owner ds trees k.
-            node_goes C sh owner ds trees k ∙ f.says C told.1 sh owner ((depth + 1) ∷ ds) (λ ps. trees (joined r.a ps)) k;
+        says = λ sh owner ds trees k.
+            node_goes sh owner ds trees k ∙ f.says sh owner ((depth + 1) ∷ ds) (λ ps. trees (joined r.a ps)) k;
       }
 
-      module _ (guard next : ℕ) (before between : Row) (left : List Record) (inner : Row) (w : inner ≡ with_node before condition) (one : TreeRead known conditions (place + 1) (depth + 1) guard rs inner between next left) where
-        tabulated_left : (C : Lattice) → Tabulated C known place (r ∷ rs) → Tabulated C known next left
-        tabulated_left C told = tabulated_tree C known (place + 1) next one.policy rs left one.stands one.reached told.1
-
-        part_goes : (C : Lattice) → Tabulated C known place (r ∷ rs) → (sh : Sheet) (owner : Owner) (ds : List ℕ) (trees : List Policy → List Policy) → length sh.conditions ≡ conditions
+      module _ (guard next : ℕ) (before between : Row) (left : List Record) (inner : Row) (w : inner ≡ with_node before condition) (one : TreeRead C conditions (place + 1) (depth + 1) guard rs inner between next left) where
+        part_goes : (sh : Sheet) (owner : Owner) (ds : List ℕ) (trees : List Policy → List Policy) → length sh.conditions ≡ conditions
             → answer C (at place sh owner (depth ∷ ds) trees) (r ∷ rs) ≡ answer C (at next sh owner ((depth + 1) ∷ ds) (λ ps. trees (joined r.a (one.policy ∷ ps)))) left
-        part_goes C told sh owner ds trees k = node_goes C sh owner ds trees k ∙ one.goes C told.1 sh owner ((depth + 1) ∷ ds) (λ ps. trees (joined r.a ps)) k
+        part_goes sh owner ds trees k = node_goes sh owner ds trees k ∙ one.goes sh owner ((depth + 1) ∷ ds) (λ ps. trees (joined r.a ps)) k
 
-        pub refused_later : (e : Refusal) → TreeRefused known conditions next (depth + 1) left e → TreeRefused known conditions place depth (r ∷ rs) e
+        pub refused_later : (e : Refusal) → TreeRefused C conditions next (depth + 1) left e → TreeRefused C conditions place depth (r ∷ rs) e
         refused_later e f = record {
-          says = λ C told sh owner ds trees k.
-              part_goes C told sh owner ds trees k ∙ f.says C (tabulated_left C told) sh owner ds (λ ps. trees (joined r.a (one.policy ∷ ps))) k;
+          says = λ sh owner ds trees k.
+              part_goes sh owner ds trees k ∙ f.says sh owner ds (λ ps. trees (joined r.a (one.policy ∷ ps))) k;
         }
 
-        pub read_node : (last inside : ℕ) (after : Row) (rest : List Record) → inside ≡ including condition guard → TreeRead known conditions next (depth + 1) inside left between after last rest
-            → TreeRead known conditions place depth guard (r ∷ rs) before after last rest
+        pub read_node : (last inside : ℕ) (after : Row) (rest : List Record) → inside ≡ including condition guard → TreeRead C conditions next (depth + 1) inside left between after last rest
+            → TreeRead C conditions place depth guard (r ∷ rs) before after last rest
         unfolding tree filled
         read_node last inside after rest i two =
             let p = judged_ok node_asked r.a condition h in
@@ -124,5 +108,5 @@ module _ (known : List Bool) (conditions place depth : ℕ) where
                   two.row ∙ ap (λ g. filled g two.policy between) i
                   ∙ ap (λ x. filled (including condition guard) two.policy x) (one.row ∙ ap (λ x. filled guard one.policy x) w)
                   ∙ ap (λ c. filled (including c guard) two.policy (filled guard one.policy (with_node before c))) p.0;
-              goes = λ C told sh owner ds trees k. part_goes C told sh owner ds trees k ∙ two.goes C (tabulated_left C told) sh owner ds (λ ps. trees (joined r.a (one.policy ∷ ps))) k;
+              goes = λ sh owner ds trees k. part_goes sh owner ds trees k ∙ two.goes sh owner ds (λ ps. trees (joined r.a (one.policy ∷ ps))) k;
             }

@@ -10,19 +10,18 @@ use Rattle.records.proofs.Firsts.{first_holds, each_same, judged_ok, judged_err}
 use Rattle.policy.specs.declared.row.Row.{Row}
 use Rattle.policy.specs.Policy.{Policy, leaf, erase, wipes, present_level}
 use Rattle.policy.specs.Masks.{bit}
-use Rattle.policy.specs.Rows.{Holds, filled, blank}
+use Rattle.policy.specs.Rows.{Holds, blank, no_leaf}
 use Rattle.policy.specs.Shapes.{Shaped}
 use Rattle.policy.proofs.Filled.{filled_holds, holds_present}
 use Rattle.sheet.specs.declared.rows.VariableRow.{VariableRow}
 use Rattle.sheet.specs.declared.rows.SheetTable.{SheetTable}
 use Rattle.sheet.specs.Sheet.{Sheet, Variable, level_of}
 use Rattle.sheet.specs.Rules.{a_variable, answer, none}
-use Rattle.sheet.specs.Table.{blank_variable, HoldsVariable, Represents}
+use Rattle.sheet.specs.Table.{blank_variable, HoldsVariable}
 use Rattle.sheet.specs.Checks.{variable_rules, wiper_rules}
-use Rattle.sheet.specs.Reading.{Tabulated, at, closed, with_variable, TreeRefused, TreeRead, ItemRefused, ItemRead}
+use Rattle.sheet.specs.Reading.{Builds, at, closed, with_variable, TreeRefused, TreeRead, ItemRefused, ItemRead}
 use Rattle.sheet.proofs.Closed as closing
 use Rattle.sheet.proofs.Tables.{grows, stays_beyond}
-use Rattle.sheet.proofs.TreeSteps.{tabulated_tree}
 
 pub nothing : {X : Type 0} (xs : List X) → length xs ≡ 0 → xs ≡ []
 nothing [] e = refl
@@ -46,43 +45,46 @@ module _ (n : ℕ) (t : Policy) (row : Row) (s : Shaped n 1 t) (h : Holds row t)
       go c true w = sym (ap₂ (λ x y. C.below x y) (f c (omega (arith, q, wipes_shaped n 1 c t s w))) e)
       go c false w = refl
 
-module _ (C : Lattice) (known : List Bool) (before : SheetTable) (place : ℕ) (r : Record) (rs : List Record) (l : r.letter ≡ 86) (np : before.permits ≡ 0) where
+module _ (C : Lattice) (before : SheetTable) (place : ℕ) (r : Record) (rs : List Record) (l : r.letter ≡ 86) (np : before.permits ≡ 0) where
   abbrev variable_asked : List Rule
   variable_asked = variable_rules r place before.variables
 
   abbrev inside : Sheet → Bool → Reading Sheet
   inside sh fed = answer C (at (place + 1) sh (a_variable place fed) (1 ∷ []) (λ ps. ps)) rs
 
-  asks : (sh : Sheet) → Represents before sh → answer C (closed place sh) (r ∷ rs) ≡ first variable_asked (inside sh (eqb r.b 1))
+  asks : (sh : Sheet) → Builds before sh → answer C (closed place sh) (r ∷ rs) ≡ first variable_asked (inside sh (eqb r.b 1))
   asks sh t =
       closing.variable_step C place sh r rs l
-      ∙ ap (λ x. first (rule 3 place 0 (none x) ∷ variable_rules r place (length sh.variables)) (inside sh (eqb r.b 1))) (nothing sh.permits (sym t.permits ∙ np))
-      ∙ ap (λ n. first (variable_rules r place n) (inside sh (eqb r.b 1))) (sym t.variables)
+      ∙ ap (λ x. first (rule 3 place 0 (none x) ∷ variable_rules r place (length sh.variables)) (inside sh (eqb r.b 1))) (nothing sh.permits (sym t.represents.permits ∙ np))
+      ∙ ap (λ n. first (variable_rules r place n) (inside sh (eqb r.b 1))) (sym t.represents.variables)
 
-  pub refused_record : (e : Refusal) → Err e ≡ judged variable_asked (eqb r.b 1) → ItemRefused C known before place r rs e
-  refused_record e h = record { says = λ sh t told. asks sh t ∙ judged_err variable_asked (eqb r.b 1) e h _ }
+  pub refused_record : (e : Refusal) → Err e ≡ judged variable_asked (eqb r.b 1) → ItemRefused C before place r rs e
+  refused_record e h = record { says = λ sh t. asks sh t ∙ judged_err variable_asked (eqb r.b 1) e h _ }
 
   module _ (fed : Bool) (h : Ok fed ≡ judged variable_asked (eqb r.b 1)) where
-    enters : (sh : Sheet) → Represents before sh → answer C (closed place sh) (r ∷ rs) ≡ inside sh fed
+    enters : (sh : Sheet) → Builds before sh → answer C (closed place sh) (r ∷ rs) ≡ inside sh fed
     enters sh t = let p = judged_ok variable_asked (eqb r.b 1) fed h in asks sh t ∙ first_holds variable_asked _ p.1 ∙ ap (inside sh) (sym p.0)
 
-    pub refused_tree : (e : Refusal) → TreeRefused known before.conditions (place + 1) 1 rs e → ItemRefused C known before place r rs e
-    refused_tree e f = record { says = λ sh t told. enters sh t ∙ f.says C told.1 sh (a_variable place fed) [] (λ ps. ps) (sym t.conditions) }
+    pub refused_tree : (e : Refusal) → TreeRefused C before.conditions (place + 1) 1 rs e → ItemRefused C before place r rs e
+    refused_tree e f = record { says = λ sh t. enters sh t ∙ f.says sh (a_variable place fed) [] (λ ps. ps) (sym t.represents.conditions) }
 
-    module _ (new row : Row) (next : ℕ) (rest : List Record) (m : before.conditions ≤ 16) (w : new ≡ blank) (tr : TreeRead known before.conditions (place + 1) 1 0 rs new row next rest) (present : ℕ) (e : present ≡ (get_or row.levels 0 record { level = 0; guard = 0 }).level) where
-      holds : Holds row tr.policy
-      holds = subst (λ x. Holds x tr.policy) (sym (tr.row ∙ ap (filled 0 tr.policy) w)) (filled_holds before.conditions tr.policy m tr.shaped)
+    module _ (row : Row) (next : ℕ) (rest : List Record) (tr : TreeRead C before.conditions (place + 1) 1 0 rs blank row next rest) where
+      abbrev present : ℕ
+      present = (get_or row.levels 0 no_leaf).level
 
-      goes_on : (sh : Sheet) → Represents before sh → Tabulated C known place (r ∷ rs)
+      holds : before.conditions ≤ 16 → Holds row tr.policy
+      holds m = subst (λ x. Holds x tr.policy) (sym tr.row) (filled_holds before.conditions tr.policy m tr.shaped)
+
+      goes_on : (sh : Sheet) → Builds before sh
           → answer C (closed place sh) (r ∷ rs) ≡ first (wiper_rules C before.levels row.wipers present place) (answer C (closed next (with_variable sh (record { policy = tr.policy; fed = fed }))) rest)
-      goes_on sh t told =
+      goes_on sh t =
           enters sh t
-          ∙ tr.goes C told.1 sh (a_variable place fed) [] (λ ps. ps) (sym t.conditions)
+          ∙ tr.goes sh (a_variable place fed) [] (λ ps. ps) (sym t.represents.conditions)
           ∙ closing.settle C next sh (a_variable place fed) (λ ps. tr.policy ∷ ps) rest
-          ∙ wipers_same before.conditions tr.policy row tr.shaped holds C sh before.levels present place _ t.conditions t.levels (e ∙ holds_present C row tr.policy record { level = 0; guard = 0 } holds)
+          ∙ wipers_same before.conditions tr.policy row tr.shaped (holds t.room) C sh before.levels present place _ t.represents.conditions t.represents.levels (holds_present C row tr.policy no_leaf (holds t.room))
 
-      pub refused_wipers : (x : Refusal) → ((a : Reading Sheet) → first (wiper_rules C before.levels row.wipers present place) a ≡ refused x) → ItemRefused C known before place r rs x
-      refused_wipers x f = record { says = λ sh t told. goes_on sh t told ∙ f _ }
+      pub refused_wipers : (x : Refusal) → ((a : Reading Sheet) → first (wiper_rules C before.levels row.wipers present place) a ≡ refused x) → ItemRefused C before place r rs x
+      refused_wipers x f = record { says = λ sh t. goes_on sh t ∙ f _ }
 
       abbrev row_after : VariableRow
       row_after = record { policy = row; fed = fed }
@@ -95,26 +97,29 @@ module _ (C : Lattice) (known : List Bool) (before : SheetTable) (place : ℕ) (
           let i = and_parts (eqb r.a before.variables) (ltb r.a 64) (judged_ok variable_asked (eqb r.b 1) fed h).1.1.0 in
           omega (arith, eqb-true r.a before.variables i.0, ltb-true r.a 64 i.1)
 
-      represents_after : (sh : Sheet) → Represents before sh → Represents after (with_variable sh (record { policy = tr.policy; fed = fed }))
-      represents_after sh t =
+      builds_after : (sh : Sheet) → Builds before sh → Builds after (with_variable sh (record { policy = tr.policy; fed = fed }))
+      builds_after sh b =
           let x : Variable = record { policy = tr.policy; fed = fed } in
           let d : Variable = record { policy = leaf 0; fed = false } in
+          let t = b.represents in
           let n = t.variables in
           record {
-            sizes = (t.sizes.0, length-set before.rows before.variables row_after ∙ t.sizes.1, t.sizes.2);
-            conditions = t.conditions;
-            levels = t.levels;
-            variables = omega (arith, n, length-append sh.variables (x ∷ []));
-            rows = grows HoldsVariable before.rows sh.variables row_after blank_variable x d before.variables n (omega (arith, small, t.sizes.1)) t.rows record { policy = holds; fed = refl };
-            beyond = stays_beyond before.rows sh.variables row_after blank_variable x before.variables n t.beyond;
-            permits = t.permits;
-            grants = t.grants;
+            represents = record {
+              sizes = (t.sizes.0, length-set before.rows before.variables row_after ∙ t.sizes.1, t.sizes.2);
+              conditions = t.conditions;
+              levels = t.levels;
+              variables = omega (arith, n, length-append sh.variables (x ∷ []));
+              rows = grows HoldsVariable before.rows sh.variables row_after blank_variable x d before.variables n (omega (arith, small, t.sizes.1)) t.rows record { policy = holds b.room; fed = refl };
+              beyond = stays_beyond before.rows sh.variables row_after blank_variable x before.variables n t.beyond;
+              permits = t.permits;
+              grants = t.grants;
+            };
+            room = b.room;
           }
 
-      pub read : ((a : Reading Sheet) → first (wiper_rules C before.levels row.wipers present place) a ≡ a) → ItemRead C known before after place r rs next rest
+      pub read : ((a : Reading Sheet) → first (wiper_rules C before.levels row.wipers present place) a ≡ a) → ItemRead C before after place r rs next rest
       read f = record {
         sheet = λ sh. with_variable sh (record { policy = tr.policy; fed = fed });
-        tabulated = λ told. tabulated_tree C known (place + 1) next tr.policy rs rest tr.stands tr.reached told.1;
-        represents = represents_after;
-        goes = λ sh t told. goes_on sh t told ∙ f _;
+        builds = builds_after;
+        goes = λ sh t. goes_on sh t ∙ f _;
       }

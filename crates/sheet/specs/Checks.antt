@@ -14,6 +14,10 @@ leaf_rules r place depth known = rule 4 place 0 (rest_zero r leaves) ∷ rule 6 
 abbrev pub node_rules : Record → ℕ → ℕ → ℕ → List Rule
 node_rules r place depth declared = rule 4 place 0 (rest_zero r nodes) ∷ rule 7 place r.a (nat_lt r.a declared) ∷ rule 8 place 0 (nat_le depth 4) ∷ []
 
+-- a record whose named fields are its number, the next of so many, and n
+abbrev pub numbered_rules : Record → ℕ → ℕ → ℕ → List Rule
+numbered_rules r place count limit = rule 4 place 0 (r.b == 0 && r.c == 0) ∷ rule 5 place 0 (r.a == count && nat_lt r.a limit) ∷ []
+
 -- a condition, a variable, a permit, with so many before it
 abbrev pub condition_rules : Record → ℕ → ℕ → Bool → List Rule
 condition_rules r place count known = rule 4 place 0 (rest_zero r conditions) ∷ rule 5 place 0 (r.a == count && nat_lt r.a 16) ∷ rule 6 place r.n known ∷ []

@@ -1,58 +1,50 @@
 // The items of a sheet: conditions, variables, permits.
-ghost use Rattle.std.specs.Prelude.{◌≡◌, ℕ, ◌+◌, ◌*◌, ◌<◌, ◌≤◌, length, IfOk, MatchResult};
+ghost use Rattle.std.specs.Prelude.{◌≡◌, ◌≤◌, length, IfOk, MatchResult};
 ghost use Rattle.records.specs.Records.{records};
 ghost use Rattle.records.specs.Rules.{judged};
 ghost use Rattle.sheet.specs.Checks.{condition_rules};
 ghost use Rattle.sheet.specs.Reading.{ItemRead, ItemRefused};
 
-use crate::letters::kind_at;
+use crate::letters::item_at;
 use crate::permits::read_permit;
-use crate::position::RecordKind;
+use crate::placed::Placed;
+use crate::position::Item;
 use crate::rows::SheetTable;
 use crate::variables::read_variable;
 use lattice::Lattice;
-use records::{Record, Refusal, Rule};
+use records::{Cursor, Refusal, Rule};
 
 // A condition's level.
-fn check_condition(first: Record, place: usize, count: usize, known: bool) -> Result<u32, Refusal>
-    ensures { result ≡ judged (condition_rules first place count known) first.n }
+fn check_condition<L: Lattice>(lattice: &L, item: Placed, count: usize) -> Result<u32, Refusal>
+    ensures { let r = item.entry.record in result ≡ judged (condition_rules r item.entry.place count ((L.Lattice.lattice lattice.now).known r.n)) r.n }
 {
-    if first.b != 0 || first.c != 0 {
-        return Err(Rule::SheetFields.at(place, 0));
+    let level = item.numbered(count, 16)?;
+    if !lattice.known(level) {
+        return Err(Rule::KnownLevel.at(item.place, level));
     }
-    if first.a as usize != count || first.a >= 16 {
-        return Err(Rule::NextNumber.at(place, 0));
-    }
-    if !known {
-        return Err(Rule::KnownLevel.at(place, first.n));
-    }
-    Ok(first.n)
+    Ok(level)
 }
 
-// Reads the item whose record is `first`, at `place`; its trees stand in front of `bytes`.
+// Reads an item with its trees into the table. Answers the cursor behind it.
 pub(crate) fn read_item<'a, L: Lattice>(
     lattice: &L,
-    first: Record,
-    bytes: &'a [u8],
-    place: usize,
-    known: &[bool],
+    item: Placed<'a>,
     table: &mut SheetTable,
-) -> Result<(usize, &'a [u8]), Refusal>
-    requires { (table.old.conditions ≤ 16) × (8 * (place + 1) + length bytes.now ≤ 8 * length known.now) }
-    ensures forward { IfOk result (λ p. (8 * p.0 + length p.1.now ≡ 8 * (place + 1) + length bytes.now) × (table.new.conditions ≤ 16) × (place < p.0)) }
+) -> Result<Cursor<'a>, Refusal>
+    ensures forward { IfOk result (λ p. length p.left.now ≤ length item.entry.behind.left.now) }
     ensures answer { MatchResult result
-        (λ p. ItemRead (L.Lattice.lattice lattice.now) known.now table.old table.new place first (records bytes.now) p.0 (records p.1.now))
-        (λ e. ItemRefused (L.Lattice.lattice lattice.now) known.now table.old place first (records bytes.now) e) }
+        (λ p. ItemRead (L.Lattice.lattice lattice.now) table.old table.new item.entry.place item.entry.record (records item.entry.behind.left.now) p.place (records p.left.now))
+        (λ e. ItemRefused (L.Lattice.lattice lattice.now) table.old item.entry.place item.entry.record (records item.entry.behind.left.now) e) }
 {
-    match kind_at(first.letter, table.position()) {
-        RecordKind::Condition => {
-            let level = check_condition(first, place, table.conditions, known[place])?;
+    match item_at(item.record.letter, table.section()) {
+        Some(Item::Condition) => {
+            let level = check_condition(lattice, item, table.conditions)?;
             table.levels[table.conditions] = level;
             table.conditions += 1;
-            Ok((place + 1, bytes))
+            Ok(item.behind)
         }
-        RecordKind::Variable => read_variable(lattice, first, bytes, place, known, table),
-        RecordKind::Permit => read_permit(first, bytes, place, known, table),
-        _ => Err(Rule::SheetLetter.at(place, 0)),
+        Some(Item::Variable) => read_variable(lattice, item, table),
+        Some(Item::Permit) => read_permit(lattice, item, table),
+        None => Err(Rule::SheetLetter.at(item.place, 0)),
     }
 }

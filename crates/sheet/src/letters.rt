@@ -1,20 +1,28 @@
 // Which letters may stand where in a sheet.
 ghost use Rattle.std.specs.Prelude.{◌≡◌};
-ghost use Rattle.sheet.specs.Letters.{kind_at};
+ghost use Rattle.sheet.specs.Letters.{item_at, part_at};
 
-use crate::position::{Position, RecordKind};
+use crate::position::{Item, Part, Section};
 
-// What a record with this letter is where the reader stands.
-pub(crate) fn kind_at(letter: u8, position: Position) -> RecordKind
-    ensures { result ≡ kind_at letter position }
+// The item that a record with this letter opens in this section, or `None` where it may not stand there.
+pub(crate) fn item_at(letter: u8, section: Section) -> Option<Item>
+    ensures { result ≡ item_at letter section }
 {
     match letter as char {
-        'C' if position == Position::Conditions => RecordKind::Condition,
-        'V' if position == Position::Conditions || position == Position::Variables =>
-            RecordKind::Variable,
-        'R' if position != Position::Tree => RecordKind::Permit,
-        'L' if position == Position::Tree => RecordKind::Leaf,
-        'E' if position == Position::Tree => RecordKind::Node,
-        _ => RecordKind::Misplaced,
+        'C' if section == Section::Conditions => Some(Item::Condition),
+        'V' if section != Section::Permits => Some(Item::Variable),
+        'R' => Some(Item::Permit),
+        _ => None,
+    }
+}
+
+// What a record with this letter is in a tree, or `None` where no tree has it.
+pub(crate) fn part_at(letter: u8) -> Option<Part>
+    ensures { result ≡ part_at letter }
+{
+    match letter as char {
+        'L' => Some(Part::Leaf),
+        'E' => Some(Part::Node),
+        _ => None,
     }
 }

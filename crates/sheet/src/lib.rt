@@ -3,8 +3,8 @@
 
 mod items;
 mod letters;
-mod levels;
 mod permits;
+mod placed;
 mod position;
 mod read;
 mod rows;

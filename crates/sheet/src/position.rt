@@ -1,21 +1,24 @@
 // Where a reader stands in a sheet, and what a record can be there.
 
-// The section that the items so far have reached, or a tree that is still open.
+// The section that the items so far have reached.
 #[derive(Clone, Copy, PartialEq)]
-pub(crate) enum Position {
+pub(crate) enum Section {
     Conditions,
     Variables,
     Permits,
-    Tree,
 }
 
-// What a record declares, or that its letter may not stand where it stands.
+// What an item declares.
 #[derive(Clone, Copy)]
-pub(crate) enum RecordKind {
+pub(crate) enum Item {
     Condition,
     Variable,
     Permit,
+}
+
+// What a record of a tree is.
+#[derive(Clone, Copy)]
+pub(crate) enum Part {
     Leaf,
     Node,
-    Misplaced,
 }

@@ -3,10 +3,10 @@ ghost use Rattle.std.specs.Result.{MatchResult};
 ghost use Rattle.sheet.specs.Reader.{SheetRead, SheetRefused};
 
 use crate::items::read_item;
-use crate::levels::tabulate_known;
+use crate::placed::Placed;
 use crate::rows::SheetTable;
 use lattice::Lattice;
-use records::{Refusal, Rule, next_record};
+use records::{Cursor, Refusal, Rule};
 
 /// The most bytes that a sheet may have.
 pub const SHEET_BYTES: usize = 4096;
@@ -18,17 +18,12 @@ pub fn read_sheet<L: Lattice>(lattice: &L, bytes: &[u8]) -> Result<SheetTable, R
         (λ e. SheetRefused (L.Lattice.lattice lattice.now) bytes.now e) }
 {
     if bytes.len() % 8 != 0 || bytes.len() > SHEET_BYTES {
-        return Err(Rule::SheetLength.at(0, 0));
+        return Err(Rule::SheetLength.into());
     }
-    let mut known = [false; SHEET_BYTES / 8];
-    tabulate_known(lattice, bytes, &mut known);
     let mut table = SheetTable::new();
-    let mut left = bytes;
-    let mut place = 0usize;
-    while let Some((first, rest)) = next_record(left) {
-        let (next, after) = read_item(lattice, first, rest, place, &known, &mut table)?;
-        place = next;
-        left = after;
+    let mut cursor = Cursor::new(bytes);
+    while let Some(item) = Placed::at(cursor) {
+        cursor = read_item(lattice, item, &mut table)?;
     }
     Ok(table)
 }

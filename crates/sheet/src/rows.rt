@@ -2,14 +2,14 @@
 use policy::Row;
 
 /// A variable: its policy's row, and whether the outside may feed it.
-#[derive(Clone, Copy)]
+#[derive(Clone, Copy, Default)]
 pub struct VariableRow {
     pub policy: Row,
     pub fed: bool,
 }
 
 /// A declassification permit: its conditions as a mask, and the rows of its from-tree and its to-tree.
-#[derive(Clone, Copy)]
+#[derive(Clone, Copy, Default)]
 pub struct Grant {
     pub conditions: u32,
     pub from: Row,
@@ -17,6 +17,7 @@ pub struct Grant {
 }
 
 /// A sheet as tables: how many conditions, variables and permits it declares, and what it says of each.
+// By count and array: no heap, so the tables have fixed room.
 #[derive(Clone, Copy)]
 pub struct SheetTable {
     pub conditions: usize,

@@ -1,96 +1,107 @@
 // The trees of policies.
-ghost use Rattle.std.specs.Prelude.{◌≡◌, ℕ, ◌+◌, ◌*◌, ◌<◌, ◌≤◌, length, IfOk, MatchResult};
+ghost use Rattle.std.specs.Prelude.{◌≡◌, ◌<◌, [], ◌∷◌, length, nat_le, IfOk, MatchResult};
 ghost use Rattle.records.specs.Records.{records};
-ghost use Rattle.records.specs.Rules.{judged};
-ghost use Rattle.policy.specs.Shapes.{room};
+ghost use Rattle.records.specs.Rules.{judged, rule};
+ghost use Rattle.policy.specs.Rows.{blank};
 ghost use Rattle.sheet.specs.Checks.{leaf_rules, node_rules};
 ghost use Rattle.sheet.specs.Reading.{TreeRefused, TreeRead};
 
-use crate::letters::kind_at;
-use crate::position::{Position, RecordKind};
+use crate::letters::part_at;
+use crate::placed::Placed;
+use crate::position::Part;
+use lattice::Lattice;
 use policy::{Row, condition_bit};
-use records::{Record, Refusal, Rule, next_record};
+use records::{Cursor, Refusal, Rule};
 
-// A leaf's level.
-fn check_leaf(leaf: Record, place: usize, depth: u8, known: bool) -> Result<u32, Refusal>
-    ensures { result ≡ judged (leaf_rules leaf place depth known) leaf.n }
+fn check_depth(place: usize, depth: u8) -> Result<(), Refusal>
+    ensures { result ≡ judged (rule 8 place 0 (nat_le depth 4) ∷ []) tt }
 {
-    if leaf.a != 0 || leaf.b != 0 || leaf.c != 0 {
-        return Err(Rule::SheetFields.at(place, 0));
-    }
-    if !known {
-        return Err(Rule::KnownLevel.at(place, leaf.n));
-    }
     if depth > 4 {
         return Err(Rule::TreeDepth.at(place, 0));
     }
-    Ok(leaf.n)
+    Ok(())
 }
 
-// An erasing node's condition.
-fn check_node(node: Record, place: usize, depth: u8, conditions: usize) -> Result<u8, Refusal>
-    ensures { result ≡ judged (node_rules node place depth conditions) node.a }
-{
-    if node.b != 0 || node.c != 0 || node.n != 0 {
-        return Err(Rule::SheetFields.at(place, 0));
-    }
-    if node.a as usize >= conditions {
-        return Err(Rule::DeclaredCondition.at(place, node.a as u32));
-    }
-    if depth > 4 {
-        return Err(Rule::TreeDepth.at(place, 0));
-    }
-    Ok(node.a)
+// What trees are read against: the lattice of their levels, and how many conditions are declared.
+#[derive(Drop)]
+pub(crate) struct TreeReader<'l, L> {
+    pub(crate) lattice: &'l L,
+    pub(crate) conditions: usize,
 }
 
-// Reads the tree at the front of `bytes`, whose first record is the sheet's record `place` and whose root has the given
-// depth. Its leaves go into the row, each with the conditions on whose later side it lies. Answers the place and the bytes after it.
-pub(crate) fn read_tree<'a>(
-    bytes: &'a [u8],
-    place: usize,
-    depth: u8,
-    guard: u16,
-    conditions: usize,
-    known: &[bool],
-    row: &mut Row,
-) -> Result<(usize, &'a [u8]), Refusal>
-    requires { (conditions ≤ 16) × ((8 * place + length bytes.now ≤ 8 * length known.now) × ((1 ≤ depth) × (depth ≤ 5))) }
-    ensures forward { IfOk result (λ p. (8 * p.0 + length p.1.now ≡ 8 * place + length bytes.now) × (place < p.0)) }
-    ensures answer { MatchResult result
-        (λ p. TreeRead known.now conditions place depth guard (records bytes.now) row.old row.new p.0 (records p.1.now))
-        (λ e. TreeRefused known.now conditions place depth (records bytes.now) e) }
-{
-    let Some((first, rest)) = next_record(bytes) else {
-        return Err(Rule::SheetLetter.at(place, 0));
-    };
-    match kind_at(first.letter, Position::Tree) {
-        RecordKind::Leaf => {
-            let level = check_leaf(first, place, depth, known[place])?;
-            row.add(level, guard);
-            Ok((place + 1, rest))
+impl<'l, L: Lattice> TreeReader<'l, L> {
+    // A leaf's level.
+    fn check_leaf(&self, leaf: Placed, depth: u8) -> Result<u32, Refusal>
+        ensures { let r = leaf.entry.record in result ≡ judged (leaf_rules r leaf.entry.place depth ((L.Lattice.lattice self.now.lattice.now).known r.n)) r.n }
+    {
+        let record = leaf.record;
+        if record.a != 0 || record.b != 0 || record.c != 0 {
+            return Err(Rule::SheetFields.at(leaf.place, 0));
         }
-        RecordKind::Node => {
-            let condition = check_node(first, place, depth, conditions)?;
-            row.pass_node(condition);
-            let (next, left) = read_tree(
-                rest,
-                place + 1,
-                depth + 1,
-                guard,
-                conditions,
-                known,
-                row,
-            )?;
-            read_tree(
-                left,
-                next,
-                depth + 1,
-                guard | condition_bit(condition),
-                conditions,
-                known,
-                row,
-            )
+        if !self.lattice.known(record.n) {
+            return Err(Rule::KnownLevel.at(leaf.place, record.n));
         }
-        _ => Err(Rule::SheetLetter.at(place, 0)),
+        check_depth(leaf.place, depth)?;
+        Ok(record.n)
+    }
+
+    // An erasing node's condition.
+    fn check_node(&self, node: Placed, depth: u8) -> Result<u8, Refusal>
+        ensures { let r = node.entry.record in result ≡ judged (node_rules r node.entry.place depth self.now.conditions) r.a }
+    {
+        let record = node.record;
+        if record.b != 0 || record.c != 0 || record.n != 0 {
+            return Err(Rule::SheetFields.at(node.place, 0));
+        }
+        if record.a as usize >= self.conditions {
+            return Err(Rule::DeclaredCondition.at(node.place, record.a.into()));
+        }
+        check_depth(node.place, depth)?;
+        Ok(record.a)
+    }
+
+    // Reads a policy: its tree's row, and the cursor behind the tree.
+    pub(crate) fn read<'a>(&self, cursor: Cursor<'a>) -> Result<(Row, Cursor<'a>), Refusal>
+        ensures forward { IfOk result (λ p. length p.1.left.now < length cursor.entry.left.now) }
+        ensures answer { MatchResult result
+            (λ p. TreeRead (L.Lattice.lattice self.now.lattice.now) self.now.conditions cursor.entry.place 1 0 (records cursor.entry.left.now) blank p.0 p.1.place (records p.1.left.now))
+            (λ e. TreeRefused (L.Lattice.lattice self.now.lattice.now) self.now.conditions cursor.entry.place 1 (records cursor.entry.left.now) e) }
+    {
+        let mut row = Row::new();
+        let behind = self.read_part(cursor, 1, 0, &mut row)?;
+        Ok((row, behind))
+    }
+
+    // Reads the tree at the cursor, whose root has the given depth. Its leaves go into the row, each with the conditions
+    // on whose later side it lies. Answers the cursor behind the tree.
+    fn read_part<'a>(
+        &self,
+        cursor: Cursor<'a>,
+        depth: u8,
+        guard: u16,
+        row: &mut Row,
+    ) -> Result<Cursor<'a>, Refusal>
+        ensures forward { IfOk result (λ p. length p.left.now < length cursor.entry.left.now) }
+        ensures answer { MatchResult result
+            (λ p. TreeRead (L.Lattice.lattice self.now.lattice.now) self.now.conditions cursor.entry.place depth guard (records cursor.entry.left.now) row.old row.new p.place (records p.left.now))
+            (λ e. TreeRefused (L.Lattice.lattice self.now.lattice.now) self.now.conditions cursor.entry.place depth (records cursor.entry.left.now) e) }
+    {
+        let Some(first) = Placed::at(cursor) else {
+            return Err(Rule::SheetLetter.at(cursor.place, 0));
+        };
+        match part_at(first.record.letter) {
+            Some(Part::Leaf) => {
+                let level = self.check_leaf(first, depth)?;
+                row.add(level, guard);
+                Ok(first.behind)
+            }
+            Some(Part::Node) => {
+                let condition = self.check_node(first, depth)?;
+                row.pass_node(condition);
+                let later = self.read_part(first.behind, depth + 1, guard, row)?;
+                self.read_part(later, depth + 1, guard | condition_bit(condition), row)
+            }
+            None => Err(Rule::SheetLetter.at(first.place, 0)),
+        }
     }
 }
