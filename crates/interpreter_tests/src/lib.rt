@@ -4,7 +4,7 @@
 #[cfg(test)]
 mod tests {
     use flow::{FlowMasks, Inflow, PermitFlow};
-    use interpreter::{Ending, pass, raise, write};
+    use interpreter::{Ending, Memory};
     use program::{Instruction, Program};
     use store::{DenseStore, SparseStore, Store};
 
@@ -30,10 +30,8 @@ mod tests {
 
     fn program(lines: &[Instruction]) -> Program {
         let mut instructions = [line(0, 0, 0, 0); 256];
-        for at in 0..256 {
-            if at < lines.len() {
-                instructions[at] = lines[at];
-            }
+        for (place, line) in instructions.iter_mut().zip(lines) {
+            *place = *line;
         }
         Program {
             count: lines.len().min(256),
@@ -84,24 +82,26 @@ mod tests {
 
     #[test]
     fn loops_inside_loops_count_every_turn(rt: HostRuntime) {
-        let mut store = DenseStore::new();
-        let mut up = 0;
-        let (ending, used) = pass(&loop_in_loop(), &masks(), &mut store, &mut up, 9);
-        assert_eq!(rt; ending, Ending::Done);
-        assert_eq!(rt; used, 9);
-        assert_eq!(rt; store.get(2), 6);
+        let mut memory = Memory {
+            store: DenseStore::new(),
+            up: 0,
+        };
+        let ending = memory.pass(&masks(), &loop_in_loop(), 9);
+        assert_eq!(rt; ending, Ending::Done { used: 9 });
+        assert_eq!(rt; memory.store.get(2), 6);
     }
 
     #[test]
     fn spent_in_the_inner_loop(rt: HostRuntime) {
-        let mut store = SparseStore::new();
-        let mut up = 0;
-        let (ending, used) = pass(&loop_in_loop(), &masks(), &mut store, &mut up, 5);
-        assert_eq!(rt; ending, Ending::Spent);
-        assert_eq!(rt; used, 5);
-        assert_eq!(rt; store.get(0), 2);
-        assert_eq!(rt; store.get(1), 1);
-        assert_eq!(rt; store.get(2), 3);
+        let mut memory = Memory {
+            store: SparseStore::new(),
+            up: 0,
+        };
+        let ending = memory.pass(&masks(), &loop_in_loop(), 5);
+        assert_eq!(rt; ending, Ending::Spent { used: 5 });
+        assert_eq!(rt; memory.store.get(0), 2);
+        assert_eq!(rt; memory.store.get(1), 1);
+        assert_eq!(rt; memory.store.get(2), 3);
     }
 
     #[test]
@@ -113,13 +113,14 @@ mod tests {
             set(5, 8),
             line(b'K', 0, 5, 3),
         ]);
-        let mut store = SparseStore::new();
-        let mut up = 2;
-        let (ending, used) = pass(&looping, &masks(), &mut store, &mut up, 100);
-        assert_eq!(rt; ending, Ending::Done);
-        assert_eq!(rt; used, 1);
-        assert_eq!(rt; store.get(5), 0);
-        assert_eq!(rt; up, 3);
+        let mut memory = Memory {
+            store: SparseStore::new(),
+            up: 2,
+        };
+        let ending = memory.pass(&masks(), &looping, 100);
+        assert_eq!(rt; ending, Ending::Done { used: 1 });
+        assert_eq!(rt; memory.store.get(5), 0);
+        assert_eq!(rt; memory.up, 3);
     }
 
     #[test]
@@ -130,11 +131,13 @@ mod tests {
             line(b'U', 3, 0, 0),
             line(b'D', 2, 0, 0),
         ]);
-        let mut store = DenseStore::new();
-        let mut up = 2;
-        let (_, _) = pass(&releasing, &masks(), &mut store, &mut up, 0);
-        assert_eq!(rt; store.get(1), 0);
-        assert_eq!(rt; store.get(2), 9);
+        let mut memory = Memory {
+            store: DenseStore::new(),
+            up: 2,
+        };
+        memory.pass(&masks(), &releasing, 0);
+        assert_eq!(rt; memory.store.get(1), 0);
+        assert_eq!(rt; memory.store.get(2), 9);
     }
 
     #[test]
@@ -151,26 +154,29 @@ mod tests {
             set(2, 2),
             line(b'K', 0, 0, 0),
         ]);
-        let mut store = DenseStore::new();
-        let mut up = 2;
-        let (ending, used) = pass(&choosing, &masks(), &mut store, &mut up, 0);
-        assert_eq!(rt; ending, Ending::Done);
-        assert_eq!(rt; used, 0);
-        assert_eq!(rt; store.get(1), 2);
-        assert_eq!(rt; store.get(2), 1);
+        let mut memory = Memory {
+            store: DenseStore::new(),
+            up: 2,
+        };
+        let ending = memory.pass(&masks(), &choosing, 0);
+        assert_eq!(rt; ending, Ending::Done { used: 0 });
+        assert_eq!(rt; memory.store.get(1), 2);
+        assert_eq!(rt; memory.store.get(2), 1);
     }
 
     #[test]
     fn writes_and_raises_of_a_caller(rt: HostRuntime) {
-        let mut store = SparseStore::new();
-        let mut up = 0;
-        write(&masks(), &mut store, up, 5, i32::MIN);
-        assert_eq!(rt; store.get(5), i32::MIN);
-        raise(&masks(), &mut store, &mut up, 0);
-        assert_eq!(rt; store.get(5), 0);
-        write(&masks(), &mut store, up, 5, 4);
-        assert_eq!(rt; store.get(5), 0);
-        raise(&masks(), &mut store, &mut up, 16);
-        assert_eq!(rt; up, 1);
+        let mut memory = Memory {
+            store: SparseStore::new(),
+            up: 0,
+        };
+        memory.write(&masks(), 5, i32::MIN);
+        assert_eq!(rt; memory.store.get(5), i32::MIN);
+        memory.raise(&masks(), 0);
+        assert_eq!(rt; memory.store.get(5), 0);
+        memory.write(&masks(), 5, 4);
+        assert_eq!(rt; memory.store.get(5), 0);
+        memory.raise(&masks(), 16);
+        assert_eq!(rt; memory.up, 1);
     }
 }

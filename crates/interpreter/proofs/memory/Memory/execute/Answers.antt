@@ -2,7 +2,7 @@ use Rattle.std.proofs.Common.{◌≡◌, suc, ◌≤◌, length, get_or, sym, ar
 use Rattle.program.specs.declared.kept.Instruction.{Instruction}
 use Rattle.program.specs.Kept.{blank}
 use Rattle.interpreter.proofs.Flat.{step, stop, end, acted, ends, ends_done, ends_spent, I-zero, I-other, Q-down, Q-up, J-on, W-zero, W-stop, W-turn, K-on, K-zero, K-stop, K-turn, acts}
-use Rattle.interpreter.proofs.interpret.execute.Goals as goal
+use Rattle.interpreter.proofs.memory.Memory.execute.Goals as goal
 
 pub loop-at-preserved-then-is_zero : goal.loop-at-preserved-then-is_zero
 loop-at-preserved-then-is_zero g c =
