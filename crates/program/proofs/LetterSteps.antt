@@ -6,9 +6,28 @@ use Rattle.program.specs.declared.innermost.Innermost.{Innermost}
 use Rattle.program.specs.declared.innermost.Innermost.TheVariants.{Outermost, First, Second, Loop}
 use Rattle.program.specs.declared.innermost.RecordKind.{RecordKind}
 use Rattle.program.specs.declared.innermost.RecordKind.TheVariants.{Set, Sign as OneSign, Release, Raise, VariableTest, ConditionTest, Loop as While, Mark, Misplaced}
+use Rattle.program.specs.declared.kept.Sign.{Sign as KeptSign}
+use Rattle.program.specs.declared.kept.Sign.TheVariants.{Plus, Minus, Times, Less, Equal}
+use Rattle.program.specs.Kept.{sign_of, kept_sign}
 use Rattle.program.specs.Written.{letter_of}
 use Rattle.program.specs.Rules.{Block, then_block, else_block, loop_block, Kind, kind, sets, signs, releases, raises, variable_tests, condition_tests, loops, elses, ends, others, in_first, in_last, may_stand}
 use Rattle.program.specs.Letters.{innermost_of, first_mark, last_mark, kind_at}
+
+-- ── the signs as they are kept ──
+
+pub sign_of-kept : (s : Sign) → sign_of (kept_sign s) ≡ s
+sign_of-kept plus = refl
+sign_of-kept minus = refl
+sign_of-kept times = refl
+sign_of-kept less = refl
+sign_of-kept equal = refl
+
+pub kept_sign-of : (s : KeptSign) → kept_sign (sign_of s) ≡ s
+kept_sign-of Plus = refl
+kept_sign-of Minus = refl
+kept_sign-of Times = refl
+kept_sign-of Less = refl
+kept_sign-of Equal = refl
 
 -- ── the letter of a kind ──
 
@@ -40,7 +59,7 @@ letter_of_lem l =
 
 abbrev kinds : Innermost → Kind → RecordKind
 kinds i sets = Set
-kinds i (signs s) = OneSign
+kinds i (signs s) = OneSign (kept_sign s)
 kinds i releases = Release
 kinds i raises = Raise
 kinds i variable_tests = VariableTest
@@ -70,7 +89,7 @@ MarkOf Loop k = k ≡ ends
 -- what the kind that the checker finds says of the rules' kind
 abbrev pub Of : RecordKind → Innermost → Kind → Type 0
 Of Set i k = k ≡ sets
-Of OneSign i k = (s : Sign) × (k ≡ signs s)
+Of (OneSign s) i k = k ≡ signs (sign_of s)
 Of Release i k = k ≡ releases
 Of Raise i k = k ≡ raises
 Of VariableTest i k = k ≡ variable_tests
@@ -105,7 +124,7 @@ last_in_lem (loop_block v pc before ∷ bs) = refl
 
 of : (i : Innermost) (k : Kind) → Of (kinds i k) i k
 of i sets = refl
-of i (signs s) = (s, refl)
+of i (signs s) = ap signs (sym (sign_of-kept s))
 of i releases = refl
 of i raises = refl
 of i variable_tests = refl

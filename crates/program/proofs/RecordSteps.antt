@@ -24,6 +24,8 @@ use Rattle.program.specs.declared.innermost.Innermost.{Innermost}
 use Rattle.program.specs.declared.innermost.Innermost.TheVariants.{Outermost, First, Second, Loop}
 use Rattle.program.specs.declared.innermost.RecordKind.{RecordKind}
 use Rattle.program.specs.declared.innermost.RecordKind.TheVariants.{Set, Sign as OneSign, Release, Raise, VariableTest, ConditionTest, Loop as While, Mark, Misplaced}
+use Rattle.program.specs.declared.kept.Sign.{Sign as KeptSign}
+use Rattle.program.specs.Kept.{sign_of}
 use Rattle.program.specs.Rules.{Block, at, Kind, kind, sets, signs, releases, raises, variable_tests, condition_tests, loops, elses, ends, may_stand, rest_zero, widest, each_within, established, answer}
 use Rattle.program.specs.Deciding.{flows}
 use Rattle.program.specs.Checks.{masked, set_fields, three_fields, raise_fields, variable_test_fields, condition_test_fields, mark_fields}
@@ -65,7 +67,7 @@ module _ (place : ℕ) (r : Record) (targets sources : ℕ) (a : Reading Command
 
 abbrev misplaced_kind : RecordKind → Bool
 misplaced_kind Set = false
-misplaced_kind OneSign = false
+misplaced_kind (OneSign s) = false
 misplaced_kind Release = false
 misplaced_kind Raise = false
 misplaced_kind VariableTest = false
@@ -202,11 +204,10 @@ module _ (m : FlowMasks) (pc : Masks) (opened : ℕ) (inner : Innermost) (place 
         names = λ p. ltb-true r.a m.conditions p.1.0;
       }
 
-  pub combining : (k : OneSign ≡ kind_at r.letter inner)
-      → Reaching OneSign (signs (kind_found OneSign r.letter inner k).0) (three_fields r place m.variables m.variables) r.a 16 (with_variable r.b (with_variable r.c pc)) (λ t. get_or m.variable t no_inflow)
-  combining h =
-      let s = (kind_found OneSign r.letter inner h).0 in
-      let q = (kind_found OneSign r.letter inner h).1 in
+  pub combining : (s : KeptSign) → OneSign s ≡ kind_at r.letter inner
+      → Reaching (OneSign s) (signs (sign_of s)) (three_fields r place m.variables m.variables) r.a 16 (with_variable r.b (with_variable r.c pc)) (λ t. get_or m.variable t no_inflow)
+  combining s h =
+      let q = kind_found (OneSign s) r.letter inner h in
       record {
         is = h;
         same = q;
@@ -214,8 +215,8 @@ module _ (m : FlowMasks) (pc : Masks) (opened : ℕ) (inner : Innermost) (place 
         context = under_variable r.b (under_variable r.c (context_of pc));
         target = λ C sh. policy_of sh r.a;
         asks = λ C sh blocks commands A rs.
-            steps.sign_step C sh place blocks (context_of pc) commands r rs s (letter (signs s) q)
-            ∙ ap (λ n. first (three_fields r place n n) (first (each_within 16 place (under_variable r.b (under_variable r.c (context_of pc))) (widest C sh (policy_of sh r.a))) (answer C sh (established (at place blocks (context_of pc) commands) r (signs s)) rs))) (sym A.masks.variables);
+            steps.sign_step C sh place blocks (context_of pc) commands r rs (sign_of s) (letter (signs (sign_of s)) q)
+            ∙ ap (λ n. first (three_fields r place n n) (first (each_within 16 place (under_variable r.b (under_variable r.c (context_of pc))) (widest C sh (policy_of sh r.a))) (answer C sh (established (at place blocks (context_of pc) commands) r (signs (sign_of s))) rs))) (sym A.masks.variables);
         masks = λ p.
             ap (under_variable r.b) (masked_variable r.c pc.variables pc.conditions (place_of r.c p.1.1.1.0))
             ∙ masked_variable r.b (with_variable r.c pc).variables pc.conditions (place_of r.b p.1.1.0);

@@ -4,6 +4,7 @@ use Rattle.program.specs.declared.innermost.Innermost.{Innermost}
 use Rattle.program.specs.declared.innermost.Innermost.TheVariants.{Outermost, First, Second, Loop}
 use Rattle.program.specs.declared.innermost.RecordKind.{RecordKind}
 use Rattle.program.specs.declared.innermost.RecordKind.TheVariants.{Set, Sign, Release, Raise, VariableTest, ConditionTest, Loop as While, Mark, Misplaced}
+use Rattle.program.specs.declared.kept.Sign.TheVariants.{Plus, Minus, Times, Less, Equal}
 use Rattle.program.specs.Rules.{Block, then_block, else_block, loop_block}
 
 abbrev pub innermost_of : List Block → Innermost
@@ -28,11 +29,11 @@ last_mark Loop = Mark
 abbrev pub kind_at : ℕ → Innermost → RecordKind
 kind_at letter i =
     cond (letter == 83) Set
-    (cond (letter == 43) Sign
-    (cond (letter == 45) Sign
-    (cond (letter == 42) Sign
-    (cond (letter == 60) Sign
-    (cond (letter == 61) Sign
+    (cond (letter == 43) (Sign Plus)
+    (cond (letter == 45) (Sign Minus)
+    (cond (letter == 42) (Sign Times)
+    (cond (letter == 60) (Sign Less)
+    (cond (letter == 61) (Sign Equal)
     (cond (letter == 68) Release
     (cond (letter == 85) Raise
     (cond (letter == 73) VariableTest

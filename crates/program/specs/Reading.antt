@@ -17,7 +17,9 @@ use Rattle.program.specs.declared.innermost.Innermost.TheVariants.{Outermost, Fi
 use Rattle.program.specs.declared.innermost.RecordKind.{RecordKind}
 use Rattle.program.specs.declared.innermost.RecordKind.TheVariants.{Mark, Misplaced}
 use Rattle.program.specs.declared.kept.Instruction.{Instruction}
-use Rattle.program.specs.Kept.{blank, instruction, linked, Placed}
+use Rattle.program.specs.declared.kept.Instruction.TheVariants.{IfVariable, IfCondition}
+use Rattle.program.specs.Kept.{blank, linked, Placed}
+use Rattle.program.specs.Keeping.{kept_as}
 use Rattle.program.specs.Rules.{Test, on_variable, on_condition, tested, Block, then_block, at, Kind, kind, sets, signs, releases, raises, variable_tests, condition_tests, loops, elses, ends, others, rest_zero, established, answer}
 use Rattle.program.specs.Checks.{masked}
 use Rattle.program.specs.Letters.{innermost_of, kind_at}
@@ -69,12 +71,12 @@ pub record Passed (m : FlowMasks) (pc : Masks) (opened : ℕ) (inner : Innermost
 
 -- the instruction of a test with the way to its J
 abbrev pub opening : Test → ℕ → Instruction
-opening (on_variable v) n = instruction 73 0 v n
-opening (on_condition c) n = instruction 81 c 0 n
+opening (on_variable v) n = IfVariable v n
+opening (on_condition c) n = IfCondition c n
 
 -- the record opens the two blocks of this test, which stand under that context
-pub record Branches (m : FlowMasks) (pc : Masks) (opened : ℕ) (inner : Innermost) (place : ℕ) (r : Record) (t : Test) (inside : Masks) : Type 0 where
-  pub opens : (n : ℕ) → opening t n ≡ instruction r.letter r.a r.b n
+pub record Branches (m : FlowMasks) (pc : Masks) (opened : ℕ) (inner : Innermost) (place : ℕ) (r : Record) (k : RecordKind) (t : Test) (inside : Masks) : Type 0 where
+  pub opens : (n : ℕ) → opening t n ≡ kept_as k r n
   pub under : tested t (context_of pc) ≡ context_of inside
   pub declared : (C : Lattice) (sh : Sheet) (blocks : List Block) → Alike C sh m pc opened inner blocks → Declared sh inside
   pub goes : (C : Lattice) (sh : Sheet) (blocks : List Block) (commands : Command → Command) → Alike C sh m pc opened inner blocks → (rs : List Record)

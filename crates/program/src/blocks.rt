@@ -99,6 +99,7 @@ fn check_command<'a>(
     match kind {
         RecordKind::VariableTest | RecordKind::ConditionTest => check_branch(
             masks,
+            kind,
             first,
             bytes,
             place,
@@ -118,7 +119,7 @@ fn check_command<'a>(
             instructions,
         ),
         _ => {
-            instructions[place] = Instruction::plain(first);
+            instructions[place] = Instruction::of(kind, first, 0);
             Ok((place + 1, bytes))
         }
     }
@@ -128,6 +129,7 @@ fn check_command<'a>(
 #[cycle(check_block_check_branch_check_command_check_loop)]
 fn check_branch<'a>(
     masks: &FlowMasks,
+    kind: RecordKind,
     first: Record,
     bytes: &'a [u8],
     place: usize,
@@ -139,7 +141,7 @@ fn check_branch<'a>(
     requires { (8 * (place + 1) + length bytes.now ≤ 2048) × (opened ≤ place) }
     ensures restored { context.new ≡ context.old }
     ensures forward { IfOk result (λ p. (8 * p.0 + length p.1.now ≡ 8 * (place + 1) + length bytes.now) × (place < p.0)) }
-    ensures answer { (inner : AnyInnermost) (t : Test) → Branches masks.now context.old opened inner place first t inside → MatchResult result
+    ensures answer { (inner : AnyInnermost) (t : Test) → Branches masks.now context.old opened inner place first kind t inside → MatchResult result
         (λ p. Reads masks.now context.old opened inner place (first ∷ records bytes.now) instructions.old instructions.new p.0 (records p.1.now))
         (λ e. Refused masks.now context.old opened inner place (first ∷ records bytes.now) e) }
 {
@@ -165,9 +167,11 @@ fn check_branch<'a>(
         context,
         instructions,
     )?;
-    instructions[place] = Instruction::jump(first.letter, first.a, first.b, (middle - place) as u8);
-    instructions[middle] = Instruction::jump(b'J', 0, 0, (end - middle) as u8);
-    instructions[end] = Instruction::jump(b'K', 0, 0, 0);
+    instructions[place] = Instruction::of(kind, first, (middle - place) as u8);
+    instructions[middle] = Instruction::Jump {
+        way: (end - middle) as u8,
+    };
+    instructions[end] = Instruction::End;
     Ok((end + 1, rest))
 }
 
@@ -201,7 +205,8 @@ fn check_loop<'a>(
         instructions,
     )?;
     let way = (end - place) as u8;
-    instructions[place] = Instruction::jump(b'W', 0, first.b, way);
-    instructions[end] = Instruction::jump(b'K', 0, first.b, way);
+    let variable = first.b;
+    instructions[place] = Instruction::Loop { variable, way };
+    instructions[end] = Instruction::Again { variable, way };
     Ok((end + 1, rest))
 }

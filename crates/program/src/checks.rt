@@ -70,7 +70,7 @@ pub(crate) fn check_record(
             let inflow = masks.variable[target as usize];
             check_reach(Rule::Reaching, place, context, inflow)?;
         }
-        RecordKind::Sign => {
+        RecordKind::Sign(_) => {
             let target = check_three(first, place, masks.variables, masks.variables)?;
             let reading = context.with_variable(first.c).with_variable(first.b);
             let inflow = masks.variable[target as usize];

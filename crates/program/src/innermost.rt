@@ -1,4 +1,5 @@
 // Where the checker stands in a program, and what a record can be there.
+use crate::kept::Sign;
 
 // The innermost open block: none, the first or the second of a test, or a loop's.
 #[derive(Clone, Copy, PartialEq)]
@@ -13,7 +14,7 @@ pub(crate) enum Innermost {
 #[derive(Clone, Copy, PartialEq)]
 pub(crate) enum RecordKind {
     Set,
-    Sign,
+    Sign(Sign),
     Release,
     Raise,
     VariableTest,

@@ -3,6 +3,7 @@ ghost use Rattle.std.specs.Prelude.{◌≡◌};
 ghost use Rattle.program.specs.Letters.{kind_at};
 
 use crate::innermost::{Innermost, RecordKind};
+use crate::kept::Sign;
 
 // What a record with this letter is in this block.
 pub(crate) fn kind_at(letter: u8, innermost: Innermost) -> RecordKind
@@ -10,7 +11,11 @@ pub(crate) fn kind_at(letter: u8, innermost: Innermost) -> RecordKind
 {
     match letter as char {
         'S' => RecordKind::Set,
-        '+' | '-' | '*' | '<' | '=' => RecordKind::Sign,
+        '+' => RecordKind::Sign(Sign::Plus),
+        '-' => RecordKind::Sign(Sign::Minus),
+        '*' => RecordKind::Sign(Sign::Times),
+        '<' => RecordKind::Sign(Sign::Less),
+        '=' => RecordKind::Sign(Sign::Equal),
         'D' => RecordKind::Release,
         'U' => RecordKind::Raise,
         'I' => RecordKind::VariableTest,

@@ -21,7 +21,7 @@ pub fn read_program(masks: &FlowMasks, bytes: &[u8]) -> Result<Program, Refusal>
     if bytes.len() % 8 != 0 || bytes.len() > PROGRAM_BYTES {
         return Err(Rule::ProgramLength.at(0, 0));
     }
-    let mut instructions = [Instruction::blank(); 256];
+    let mut instructions = [Instruction::End; 256];
     let mut context = Context::outermost();
     let inside = context;
     let (count, _rest) = check_block(

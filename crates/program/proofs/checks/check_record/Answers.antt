@@ -20,15 +20,15 @@ returns-in_ok-check_reach-in-Set c = steps.passed_as c.args.masks.now c.args.con
 pub returns-in_err-target-in-Sign : goal.returns-in_err-target-in-Sign
 returns-in_err-target-in-Sign c =
     let p = err_from_is_err_and c.from_residual-in_err-target-in-Sign.result c.from_residual-in_err-target-in-Sign.ensures.1 in
-    rw (p.1, p.2) (steps.reach_fields c.args.masks.now c.args.context c.args.opened c.args.innermost c.args.place c.args.first (steps.combining c.args.masks.now c.args.context c.args.opened c.args.innermost c.args.place c.args.first c.in-Sign.ensures) _ c.in_err-target-in-Sign.ensures)
+    rw (p.1, p.2) (steps.reach_fields c.args.masks.now c.args.context c.args.opened c.args.innermost c.args.place c.args.first (steps.combining c.args.masks.now c.args.context c.args.opened c.args.innermost c.args.place c.args.first _ c.in-Sign.ensures) _ c.in_err-target-in-Sign.ensures)
 
 pub returns-in_err-check_reach-in-Sign : goal.returns-in_err-check_reach-in-Sign
 returns-in_err-check_reach-in-Sign c =
     let p = err_from_is_err_and c.from_residual-in_err-check_reach-in-Sign.result c.from_residual-in_err-check_reach-in-Sign.ensures.1 in
-    rw (p.1, p.2) (steps.reach_refused c.args.masks.now c.args.context c.args.opened c.args.innermost c.args.place c.args.first (steps.combining c.args.masks.now c.args.context c.args.opened c.args.innermost c.args.place c.args.first c.in-Sign.ensures) c.in_ok-target-in-Sign.target c.with_variable-reading.result c.in_ok-target-in-Sign.ensures (c.with_variable-reading.ensures ∙ ap (with_variable c.args.first.b) c.with_variable.ensures) _ c.in_err-check_reach-in-Sign.ensures)
+    rw (p.1, p.2) (steps.reach_refused c.args.masks.now c.args.context c.args.opened c.args.innermost c.args.place c.args.first (steps.combining c.args.masks.now c.args.context c.args.opened c.args.innermost c.args.place c.args.first _ c.in-Sign.ensures) c.in_ok-target-in-Sign.target c.with_variable-reading.result c.in_ok-target-in-Sign.ensures (c.with_variable-reading.ensures ∙ ap (with_variable c.args.first.b) c.with_variable.ensures) _ c.in_err-check_reach-in-Sign.ensures)
 
 pub returns-in_ok-check_reach-in-Sign : goal.returns-in_ok-check_reach-in-Sign
-returns-in_ok-check_reach-in-Sign c = steps.passed_as c.args.masks.now c.args.context c.args.opened c.args.innermost c.args.place c.args.first c.in-Sign.is (steps.reach_passed c.args.masks.now c.args.context c.args.opened c.args.innermost c.args.place c.args.first (steps.combining c.args.masks.now c.args.context c.args.opened c.args.innermost c.args.place c.args.first c.in-Sign.ensures) c.in_ok-target-in-Sign.target c.with_variable-reading.result c.in_ok-target-in-Sign.ensures (c.with_variable-reading.ensures ∙ ap (with_variable c.args.first.b) c.with_variable.ensures) c.in_ok-check_reach-in-Sign.ensures)
+returns-in_ok-check_reach-in-Sign c = steps.passed_as c.args.masks.now c.args.context c.args.opened c.args.innermost c.args.place c.args.first c.in-Sign.is (steps.reach_passed c.args.masks.now c.args.context c.args.opened c.args.innermost c.args.place c.args.first (steps.combining c.args.masks.now c.args.context c.args.opened c.args.innermost c.args.place c.args.first _ c.in-Sign.ensures) c.in_ok-target-in-Sign.target c.with_variable-reading.result c.in_ok-target-in-Sign.ensures (c.with_variable-reading.ensures ∙ ap (with_variable c.args.first.b) c.with_variable.ensures) c.in_ok-check_reach-in-Sign.ensures)
 
 pub returns-in_err-target-in-Release : goal.returns-in_err-target-in-Release
 returns-in_err-target-in-Release c =
