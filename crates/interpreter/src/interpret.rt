@@ -5,14 +5,14 @@ ghost use Rattle.policy.specs.Masks.{bit, members};
 ghost use Rattle.sheet.specs.Sheet.{Sheet, permit_at};
 ghost use Rattle.machine.specs.Command.{Command};
 ghost use Rattle.machine.specs.Run.{run, calculate, released, permitted, is_zero};
-ghost use Rattle.program.specs.Kept.{Keeps, Placed};
+ghost use Rattle.program.specs.Kept.{sign_of, Keeps, Placed};
 ghost use Rattle.interpreter.specs.Meaning.{Enforces, meaning, Answers};
-ghost use Rattle.interpreter.specs.Parts.{plain, sign_of, memory_after, Ends};
+ghost use Rattle.interpreter.specs.Parts.{plain, memory_after, Ends};
 
 use crate::memory::Memory;
 use flow::FlowMasks;
 use policy::has;
-use program::{Instruction, Program};
+use program::{Instruction, Program, Sign};
 use store::Store;
 
 /// How a pass ends, and the turns of loops that it used: after its last command, or at a loop that wants a turn when none is left.
@@ -45,42 +45,58 @@ impl<S: Store> Memory<S> {
         // No `for`: the program jumps, forward over its blocks and back to the start of a loop.
         while at < program.count {
             let here = program.instructions[at];
-            let jump = here.c as usize;
             at += 1;
-            match here.letter as char {
-                'I' if self.is_zero(here.b) => at += jump,
-                'Q' if !self.is_up(here.a) => at += jump,
-                'J' => at += jump,
-                'W' if self.is_zero(here.b) => at += jump,
-                'W' => left = left.checked_sub(1)?,
-                'K' if jump != 0 && !self.is_zero(here.b) => {
-                    left = left.checked_sub(1)?;
-                    at = at.saturating_sub(jump);
+            match here {
+                Instruction::IfVariable { variable, way } if self.is_zero(variable) => {
+                    at += way as usize;
                 }
-                'I' | 'Q' | 'K' => {}
+                Instruction::IfCondition { condition, way } if !self.is_up(condition) => {
+                    at += way as usize;
+                }
+                Instruction::Jump { way } => at += way as usize,
+                Instruction::Loop { variable, way } if self.is_zero(variable) => {
+                    at += way as usize;
+                }
+                Instruction::Loop { .. } => left = left.checked_sub(1)?,
+                Instruction::Again { variable, way } if !self.is_zero(variable) => {
+                    left = left.checked_sub(1)?;
+                    at = at.saturating_sub(way as usize);
+                }
+                Instruction::IfVariable { .. }
+                | Instruction::IfCondition { .. }
+                | Instruction::Again { .. } => {}
                 _ => self.act(masks, here),
             }
         }
         Some(left)
     }
 
-    // Does what an instruction without a block says.
+    // Does what an instruction without a block says; those of blocks do nothing here.
     fn act(&mut self, masks: &FlowMasks, here: Instruction)
         ensures { (sh : Sheet) → Enforces masks.now sh → Placed (plain here) →
             meaning S.Store.values self.new ≡ memory_after (run sh (plain here) 0 (meaning S.Store.values self.old)) }
     {
-        match here.letter as char {
-            'S' => self.write(masks, here.a, here.n),
-            '+' | '-' | '*' | '<' | '=' => {
-                let x = self.store.get(here.b as usize);
-                let y = self.store.get(here.c as usize);
-                self.write(masks, here.a, combine(here.letter, x, y));
+        match here {
+            Instruction::Set { target, value } => self.write(masks, target, value),
+            Instruction::Combine {
+                sign,
+                target,
+                left,
+                right,
+            } => {
+                let x = self.store.get(left as usize);
+                let y = self.store.get(right as usize);
+                self.write(masks, target, calculate(sign, x, y));
             }
-            'D' => {
-                let value = self.release(masks, here.b, here.c);
-                self.write(masks, here.a, value);
+            Instruction::Release {
+                target,
+                source,
+                permit,
+            } => {
+                let value = self.release(masks, source, permit);
+                self.write(masks, target, value);
             }
-            'U' => self.raise(masks, here.a),
+            Instruction::Raise { condition } => self.raise(masks, condition),
             _ => {}
         }
     }
@@ -118,15 +134,15 @@ impl<S: Store> Memory<S> {
     }
 }
 
-fn combine(letter: u8, x: i32, y: i32) -> i32
-    ensures { result ≡ calculate (sign_of letter) x y }
+fn calculate(sign: Sign, x: i32, y: i32) -> i32
+    ensures { result ≡ calculate (sign_of sign) x y }
 {
-    match letter as char {
-        '+' => x.wrapping_add(y),
-        '-' => x.wrapping_sub(y),
-        '*' => x.wrapping_mul(y),
-        '<' => i32::from(x < y),
-        _ => i32::from(x == y),
+    match sign {
+        Sign::Plus => x.wrapping_add(y),
+        Sign::Minus => x.wrapping_sub(y),
+        Sign::Times => x.wrapping_mul(y),
+        Sign::Less => i32::from(x < y),
+        Sign::Equal => i32::from(x == y),
     }
 }
 

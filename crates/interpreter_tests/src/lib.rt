@@ -5,31 +5,40 @@
 mod tests {
     use flow::{FlowMasks, Inflow, PermitFlow};
     use interpreter::{Ending, Memory};
-    use program::{Instruction, Program};
+    use program::{Instruction, Program, Sign};
     use store::{DenseStore, SparseStore, Store};
 
-    fn line(letter: u8, a: u8, b: u8, c: u8) -> Instruction {
-        Instruction {
-            letter,
-            a,
-            b,
-            c,
-            n: 0,
+    fn set(target: u8, value: i32) -> Instruction {
+        Instruction::Set { target, value }
+    }
+
+    fn combine(sign: Sign, target: u8, left: u8, right: u8) -> Instruction {
+        Instruction::Combine {
+            sign,
+            target,
+            left,
+            right,
         }
     }
 
-    fn set(a: u8, n: i32) -> Instruction {
-        Instruction {
-            letter: b'S',
-            a,
-            b: 0,
-            c: 0,
-            n,
+    fn release(target: u8, source: u8, permit: u8) -> Instruction {
+        Instruction::Release {
+            target,
+            source,
+            permit,
         }
+    }
+
+    fn repeat(variable: u8, way: u8) -> Instruction {
+        Instruction::Loop { variable, way }
+    }
+
+    fn again(variable: u8, way: u8) -> Instruction {
+        Instruction::Again { variable, way }
     }
 
     fn program(lines: &[Instruction]) -> Program {
-        let mut instructions = [line(0, 0, 0, 0); 256];
+        let mut instructions = [Instruction::End; 256];
         for (place, line) in instructions.iter_mut().zip(lines) {
             *place = *line;
         }
@@ -69,14 +78,14 @@ mod tests {
         program(&[
             set(3, 1),
             set(0, 3),
-            line(b'W', 0, 0, 7),
+            repeat(0, 7),
             set(1, 2),
-            line(b'W', 0, 1, 3),
-            line(b'+', 2, 2, 3),
-            line(b'-', 1, 1, 3),
-            line(b'K', 0, 1, 3),
-            line(b'-', 0, 0, 3),
-            line(b'K', 0, 0, 7),
+            repeat(1, 3),
+            combine(Sign::Plus, 2, 2, 3),
+            combine(Sign::Minus, 1, 1, 3),
+            again(1, 3),
+            combine(Sign::Minus, 0, 0, 3),
+            again(0, 7),
         ])
     }
 
@@ -108,10 +117,10 @@ mod tests {
     fn a_raise_wipes_the_variable_of_its_loop(rt: HostRuntime) {
         let looping = program(&[
             set(5, 7),
-            line(b'W', 0, 5, 3),
-            line(b'U', 0, 0, 0),
+            repeat(5, 3),
+            Instruction::Raise { condition: 0 },
             set(5, 8),
-            line(b'K', 0, 5, 3),
+            again(5, 3),
         ]);
         let mut memory = Memory {
             store: SparseStore::new(),
@@ -127,9 +136,9 @@ mod tests {
     fn a_release_asks_for_all_its_conditions(rt: HostRuntime) {
         let releasing = program(&[
             set(0, 9),
-            line(b'D', 1, 0, 0),
-            line(b'U', 3, 0, 0),
-            line(b'D', 2, 0, 0),
+            release(1, 0, 0),
+            Instruction::Raise { condition: 3 },
+            release(2, 0, 0),
         ]);
         let mut memory = Memory {
             store: DenseStore::new(),
@@ -143,16 +152,22 @@ mod tests {
     #[test]
     fn blocks_are_chosen_by_variables_and_conditions(rt: HostRuntime) {
         let choosing = program(&[
-            line(b'I', 0, 0, 2),
+            Instruction::IfVariable {
+                variable: 0,
+                way: 2,
+            },
             set(1, 1),
-            line(b'J', 0, 0, 2),
+            Instruction::Jump { way: 2 },
             set(1, 2),
-            line(b'K', 0, 0, 0),
-            line(b'Q', 1, 0, 2),
+            Instruction::End,
+            Instruction::IfCondition {
+                condition: 1,
+                way: 2,
+            },
             set(2, 1),
-            line(b'J', 0, 0, 2),
+            Instruction::Jump { way: 2 },
             set(2, 2),
-            line(b'K', 0, 0, 0),
+            Instruction::End,
         ]);
         let mut memory = Memory {
             store: DenseStore::new(),

@@ -1,16 +1,19 @@
 use Rattle.std.proofs.Common.{◌+◌, ◌-◌, ◌*◌, ◌≤◌}
 use Rattle.sheet.specs.Sheet.{Sheet}
+use Rattle.machine.specs.Command.{Command}
+use Rattle.machine.specs.Run.{run}
+use Rattle.program.specs.Kept.{Keeps}
 use Rattle.interpreter.specs.Meaning.{Enforces, meaning}
-use Rattle.interpreter.proofs.Flat.{End, Flat}
+use Rattle.interpreter.proofs.Flat.{Flat, follow, finished}
 use Rattle.interpreter.proofs.memory.Memory.execute.Given as goal
 
--- however the program ends from its first instruction, it ends so from here
+-- from here the program ends as its command does from the start
 abbrev pub invariant-loop-at : goal.invariant-loop-at
-invariant-loop-at g l =
-    (l.left ≤ l.turns)
-    × ((sh : Sheet) → Enforces l.masks sh → (e : End)
-    → Flat l.program.instructions l.program.count sh 0 l.turns (meaning g.S.Store.values l.initial.self) e
-    → Flat l.program.instructions l.program.count sh l.at l.left (meaning g.S.Store.values l.self) e)
+invariant-loop-at g l = record {
+  within : l.left ≤ l.turns;
+  ends : (sh : Sheet) (c : Command) → Enforces l.masks sh → Keeps l.program c
+      → Flat l.program.instructions l.program.count sh l.at l.left (meaning g.S.Store.values l.self) (follow (run sh c l.turns (meaning g.S.Store.values l.initial.self)) finished);
+}
 
 -- turns left, and instructions to go
 abbrev pub decreases-loop-at : goal.decreases-loop-at
