@@ -1,15 +1,14 @@
 -- A program as a list of instructions with jumps, one at a time, and that it does what its command does.
-use Rattle.std.proofs.Common.{◌≡◌, ℕ, zero, suc, ◌+◌, ◌-◌, ◌<◌, ◌≤◌, Bool, true, false, cond, eqb, List, [], ◌∷◌, ◌++◌, length, get_or, take, pos, Some, None, Option, sym, refl, ap, ◌∙◌, subst, arith, length-append, length-take-le, get_or-take}
-use Rattle.std.proofs.lemmas.Bool.{ne_eqb}
+use Rattle.std.proofs.Common.{◌≡◌, ℕ, zero, suc, ◌+◌, ◌-◌, ◌<◌, ◌≤◌, Bool, true, false, cond, List, [], ◌∷◌, ◌++◌, length, get_or, pos, Some, None, Option, sym, refl, ap, ◌∙◌, subst, arith, length-append, length-take-le, get_or-take}
 use Rattle.sheet.specs.Sheet.{Sheet}
-use Rattle.machine.specs.Command.{plus, minus, times, less, equal, Command, skip, ◌⨾◌, set, combine, release, raise, if_variable, if_condition, while}
+use Rattle.machine.specs.Command.{Command, skip, ◌⨾◌, set, combine, release, raise, if_variable, if_condition, while}
 use Rattle.machine.specs.Memory.{Memory}
 use Rattle.machine.specs.Run.{Outcome, done, spent, Release, after, and_then, is_zero, run}
 use Rattle.machine.proofs.Loops.{while_law}
 use Rattle.program.specs.declared.kept.Instruction.{Instruction}
 use Rattle.program.specs.declared.kept.Instruction.TheVariants.{Set, IfVariable, IfCondition, Jump, End, Loop, Again}
 use Rattle.program.specs.declared.kept.Program.{Program}
-use Rattle.program.specs.Kept.{sign_of, kept_sign, linked, size, Placed, Keeps}
+use Rattle.program.specs.Kept.{linked, size, Placed, Keeps}
 use Rattle.program.proofs.LetterSteps.{sign_of-kept}
 use Rattle.interpreter.specs.Parts.{plain, memory_after, Ends}
 

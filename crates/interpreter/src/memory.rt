@@ -1,8 +1,9 @@
 // How the memory changes: by a write, and by a condition that comes up.
-ghost use Rattle.std.specs.Prelude.{◌≡◌, ℕ, ◌<◌, ◌≤◌, ◌&&◌, pos, if◌then◌else◌, nat_lt, slice_index, slice_index_or};
+ghost use Rattle.std.specs.Prelude.{◌≡◌, ℕ, ◌<◌, ◌≤◌, ◌&&◌, pos, if◌then◌else◌, nat_lt, slice_index_or};
 ghost use Rattle.policy.specs.Masks.{bit};
 ghost use Rattle.sheet.specs.Sheet.{Sheet};
 ghost use Rattle.machine.specs.Memory.{write, raised};
+ghost use Rattle.flow.specs.Flows.{no_variable_flow};
 ghost use Rattle.interpreter.specs.Meaning.{Enforces, meaning};
 
 use flow::FlowMasks;
@@ -24,7 +25,7 @@ impl<S: Store> Memory<S> {
         ensures up { self.new.up ≡ self.old.up }
         ensures beyond { 64 ≤ variable → self.new ≡ self.old }
     {
-        if variable < 64 && masks.wipers[variable as usize] & self.up == 0 {
+        if variable < 64 && masks.variable[variable as usize].wipers & self.up == 0 {
             self.store.put(variable as usize, value);
         }
     }
@@ -44,11 +45,11 @@ impl<S: Store> Memory<S> {
     // Zeroes each variable that the condition wipes.
     fn wipe(&mut self, masks: &FlowMasks, condition: u8)
         ensures values { (v : ℕ) → slice_index_or (S.Store.values self.new.store) v (pos 0)
-            ≡ (if nat_lt v 64 && bit condition (slice_index masks.now.wipers v) then pos 0 else slice_index_or (S.Store.values self.old.store) v (pos 0)) }
+            ≡ (if nat_lt v 64 && bit condition (slice_index_or masks.now.variable v no_variable_flow).wipers then pos 0 else slice_index_or (S.Store.values self.old.store) v (pos 0)) }
         ensures up { self.new.up ≡ self.old.up }
     {
-        for (variable, wipers) in masks.wipers.iter().enumerate() {
-            if has((*wipers).into(), condition) {
+        for (variable, flow) in masks.variable.iter().enumerate() {
+            if has(flow.wipers.into(), condition) {
                 self.store.put(variable, 0);
             }
         }

@@ -4,7 +4,7 @@ use Rattle.std.specs.Int.{w32}
 use Rattle.std.proofs.Common.{to_z}
 use Rattle.records.specs.declared.Record.{Record}
 use Rattle.program.specs.declared.innermost.RecordKind.{RecordKind}
-use Rattle.program.specs.declared.innermost.RecordKind.TheVariants.{Set, Sign, Release, Raise, VariableTest, ConditionTest, Loop, Mark, Misplaced}
+use Rattle.program.specs.declared.innermost.RecordKind.TheVariants.{Set, Sign, Release, Raise, VariableTest, ConditionTest, Loop, Mark}
 use Rattle.program.specs.declared.kept.Instruction.{Instruction}
 use Rattle.program.specs.declared.kept.Instruction.TheVariants as kept
 
@@ -17,4 +17,3 @@ kept_as VariableTest r way = kept.IfVariable r.b way
 kept_as ConditionTest r way = kept.IfCondition r.a way
 kept_as Loop r way = kept.Loop r.b way
 kept_as Mark r way = kept.End
-kept_as Misplaced r way = kept.End

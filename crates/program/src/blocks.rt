@@ -1,5 +1,5 @@
 // Blocks and their commands, checked and kept in one pass.
-ghost use Rattle.std.specs.Prelude.{◌≡◌, ℕ, ◌+◌, ◌*◌, ◌<◌, ◌≤◌, ◌≢◌, ◌∷◌, length, IfOk, MatchResult};
+ghost use Rattle.std.specs.Prelude.{◌≡◌, ℕ, Option, ◌+◌, ◌*◌, ◌<◌, ◌≤◌, ◌≢◌, ◌∷◌, length, IfOk, MatchResult};
 ghost use Rattle.records.specs.Records.{records};
 ghost use Rattle.program.specs.declared.innermost.Innermost.{Innermost as AnyInnermost};
 ghost use Rattle.program.specs.declared.innermost.RecordKind.TheVariants.{Loop as While, Mark};
@@ -23,7 +23,7 @@ pub(crate) fn check_block<'a>(
     bytes: &'a [u8],
     place: usize,
     opened: usize,
-    innermost: Innermost,
+    innermost: Option<Innermost>,
     inside: Context,
     context: &mut Context,
     instructions: &mut [Instruction; 256],
@@ -60,8 +60,8 @@ pub(crate) fn check_block<'a>(
         }
     }
     match innermost {
-        Innermost::Outermost => Ok((at, left)),
-        _ => Err(Rule::ProgramLetter.at(at, 0)),
+        None => Ok((at, left)),
+        Some(_) => Err(Rule::ProgramLetter.at(at, 0)),
     }
 }
 
@@ -91,7 +91,7 @@ fn check_command<'a>(
     requires { (8 * (place + 1) + length bytes.now ≤ 2048) × (opened ≤ place) }
     ensures restored { context.new ≡ context.old }
     ensures forward { IfOk result (λ p. (8 * p.0 + length p.1.now ≡ 8 * (place + 1) + length bytes.now) × (place < p.0)) }
-    ensures answer { (inner : AnyInnermost) → Passed masks.now context.old opened inner place first kind → kind ≢ Mark → MatchResult result
+    ensures answer { (inner : Option AnyInnermost) → Passed masks.now context.old opened inner place first kind → kind ≢ Mark → MatchResult result
         (λ p. Reads masks.now context.old opened inner place (first ∷ records bytes.now) instructions.old instructions.new p.0 (records p.1.now))
         (λ e. Refused masks.now context.old opened inner place (first ∷ records bytes.now) e) }
 {
@@ -141,7 +141,7 @@ fn check_branch<'a>(
     requires { (8 * (place + 1) + length bytes.now ≤ 2048) × (opened ≤ place) }
     ensures restored { context.new ≡ context.old }
     ensures forward { IfOk result (λ p. (8 * p.0 + length p.1.now ≡ 8 * (place + 1) + length bytes.now) × (place < p.0)) }
-    ensures answer { (inner : AnyInnermost) (t : Test) → Branches masks.now context.old opened inner place first kind t inside → MatchResult result
+    ensures answer { (inner : Option AnyInnermost) (t : Test) → Branches masks.now context.old opened inner place first kind t inside → MatchResult result
         (λ p. Reads masks.now context.old opened inner place (first ∷ records bytes.now) instructions.old instructions.new p.0 (records p.1.now))
         (λ e. Refused masks.now context.old opened inner place (first ∷ records bytes.now) e) }
 {
@@ -150,7 +150,7 @@ fn check_branch<'a>(
         bytes,
         place + 1,
         opened + 1,
-        Innermost::First,
+        Some(Innermost::First),
         inside,
         context,
         instructions,
@@ -162,7 +162,7 @@ fn check_branch<'a>(
         second,
         middle + 1,
         opened + 1,
-        Innermost::Second,
+        Some(Innermost::Second),
         again,
         context,
         instructions,
@@ -190,7 +190,7 @@ fn check_loop<'a>(
     requires { (8 * (place + 1) + length bytes.now ≤ 2048) × (opened ≤ place) }
     ensures restored { context.new ≡ context.old }
     ensures forward { IfOk result (λ p. (8 * p.0 + length p.1.now ≡ 8 * (place + 1) + length bytes.now) × (place < p.0)) }
-    ensures answer { (inner : AnyInnermost) → Passed masks.now context.old opened inner place first While → inside ≡ with_variable first.b context.old → MatchResult result
+    ensures answer { (inner : Option AnyInnermost) → Passed masks.now context.old opened inner place first While → inside ≡ with_variable first.b context.old → MatchResult result
         (λ p. Reads masks.now context.old opened inner place (first ∷ records bytes.now) instructions.old instructions.new p.0 (records p.1.now))
         (λ e. Refused masks.now context.old opened inner place (first ∷ records bytes.now) e) }
 {
@@ -199,7 +199,7 @@ fn check_loop<'a>(
         bytes,
         place + 1,
         opened + 1,
-        Innermost::Loop,
+        Some(Innermost::Loop),
         inside,
         context,
         instructions,

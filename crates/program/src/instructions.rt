@@ -40,7 +40,7 @@ impl Instruction {
                 variable: first.b,
                 way,
             },
-            RecordKind::Mark | RecordKind::Misplaced => Instruction::End,
+            RecordKind::Mark => Instruction::End,
         }
     }
 }

@@ -59,14 +59,14 @@ check_block-loop-first-preserved t c =
           (steps.reads_under _ _ _ i.3 (c.in_ok-next-in_default-2.ensures.answer c.args.innermost c.in_ok-kind.ensures c.in_default-2.not-Mark))),
     )
 
-pub check_block-returns-in-Outermost : goal.check_block-returns-in-Outermost
-check_block-returns-in-Outermost t c =
+pub check_block-returns-in-None : goal.check_block-returns-in-None
+check_block-returns-in-None t c =
     let i = c.loop-first.invariant in
-    let b : end_bytes c.args.innermost ≡ 0 = ap end_bytes c.in-Outermost.is in
+    let b : end_bytes c.args.innermost ≡ 0 = ap end_bytes c.in-None.is in
     record {
       restored = search rules;
       forward = (omega (arith, i.0, b), i.1, λ z. c.in_default.ensures);
-      answer = record { left = records c.loop-first.left.now; reads = i.4; ends = steps.ends_outermost _ _ _ c.args.innermost _ _ _ c.in-Outermost.is (records_short c.loop-first.left.now c.in_default.ensures) };
+      answer = record { left = records c.loop-first.left.now; reads = i.4; ends = steps.ends_outermost _ _ _ c.args.innermost _ _ _ c.in-None.is (records_short c.loop-first.left.now c.in_default.ensures) };
     }
 
 pub check_block-returns : goal.check_block-returns
@@ -76,7 +76,7 @@ check_block-returns t c =
       restored = search rules;
       forward = tt;
       answer = rw c.at.ensures
-          (steps.refused_after _ _ _ _ i.4 (steps.refused_as _ _ _ _ (records_short c.loop-first.left.now c.in_default.ensures) (steps.left_open _ _ _ c.args.innermost _ c.in_default-innermost.not-Outermost)));
+          (steps.refused_after _ _ _ _ i.4 (steps.refused_as _ _ _ _ (records_short c.loop-first.left.now c.in_default.ensures) (steps.left_open _ _ _ c.args.innermost _ c.in-Some-innermost.is)));
     }
 
 pub check_branch-returns-in_err-middle : goal.check_branch-returns-in_err-middle
