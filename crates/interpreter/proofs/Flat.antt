@@ -273,8 +273,8 @@ module _ {rs : List Instruction} {count : ℕ} {sh : Sheet} {p t : ℕ} {m : Mem
   pub again_stop : {v way : ℕ} → get_or rs p unset ≡ Again v way → false ≡ is_zero (m.values v) → t ≡ 0 → e ≡ stuck m
   again_stop h z q = stop rs count sh f l (rw (h, ← z, q) refl)
 
-  pub again_turn : {v way u x : ℕ} → get_or rs p unset ≡ Again v way → false ≡ is_zero (m.values v) → t ≡ suc u → x ≡ p + 1 - way → Flat rs count sh x u m e
-  again_turn h z q y = step rs count sh f l (rw (h, ← z, q, y) refl)
+  pub again_turn : {v way u : ℕ} → get_or rs p unset ≡ Again v way → false ≡ is_zero (m.values v) → t ≡ suc u → Flat rs count sh (p + 1 - way) u m e
+  again_turn h z q = step rs count sh f l (rw (h, ← z, q) refl)
 
   pub acted : {n : Memory} → ((v w : ℕ) → get_or rs p unset ≡ IfVariable v w → ⊥) → ((v w : ℕ) → get_or rs p unset ≡ IfCondition v w → ⊥) → ((w : ℕ) → get_or rs p unset ≡ Jump w → ⊥)
       → ((v w : ℕ) → get_or rs p unset ≡ Loop v w → ⊥) → ((v w : ℕ) → get_or rs p unset ≡ Again v w → ⊥)
@@ -282,6 +282,8 @@ module _ {rs : List Instruction} {count : ℕ} {sh : Sheet} {p t : ℕ} {m : Mem
   acted a b c d i y =
       let x = acts sh (get_or rs p unset) p t m a b c d i in
       subst (λ n. Flat rs count sh (p + 1) t n e) (sym (y (here rs count sh f l x))) (step rs count sh f l x)
+
+pub ruleset moves = (starts, variable_zero, variable_other, condition_down, condition_up, jumps, loop_over, loop_stop, loop_turn, again_over, again_stop, again_turn, acted)
 
 -- from how a run ends to what the code answers
 pub ends_done : (t : ℕ) (m : Memory) (o : Outcome) → follow o finished ≡ finished t m → Ends (Some t) m o

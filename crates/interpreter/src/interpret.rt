@@ -35,6 +35,7 @@ impl<S: Store> Memory<S> {
     }
 
     // Runs the program; the turns that are left over, or none where a loop wants one more than there are.
+    #[tactic(auto, using(crate::proofs::Flat::moves))]
     fn execute(&mut self, masks: &FlowMasks, program: &Program, turns: u32) -> Option<u32>
         ensures within { unwrap_or result 0 ≤ turns }
         ensures ends { (sh : Sheet) (c : Command) → Enforces masks.now sh → Keeps program.now c →
@@ -114,6 +115,7 @@ impl<S: Store> Memory<S> {
     }
 
     // A permit that is not declared has no conditions.
+    #[tactic(auto, using(crate::proofs::Permits::permit_undeclared))]
     fn is_permitted(&self, masks: &FlowMasks, permit: u8) -> bool
         ensures { (sh : Sheet) → Enforces masks.now sh → result ≡ permitted (permit_at sh permit).conditions (members self.now.up) }
     {
@@ -134,6 +136,7 @@ impl<S: Store> Memory<S> {
     }
 }
 
+#[tactic(auto, using(std::proofs::lemmas::Int::wraps))]
 fn calculate(sign: Sign, x: i32, y: i32) -> i32
     ensures { result ≡ calculate (sign_of sign) x y }
 {
@@ -146,6 +149,7 @@ fn calculate(sign: Sign, x: i32, y: i32) -> i32
     }
 }
 
+#[tactic(auto, using(crate::proofs::Permits::all_up_test))]
 fn all_up(wanted: u16, up: u16) -> bool
     ensures { result ≡ permitted wanted (members up) }
 {
