@@ -69,16 +69,6 @@ module _ (rs : List Instruction) (count : ℕ) (sh : Sheet) where
       subst (λ (i : ℕ). Flat i u n e) a (subst (λ (i : ℕ). Flat q' i n e) b (subst (λ i. Flat q' u' i e) d f))
   step (halt h y) l x = let z : ◌≡◌ {A = ℕ} 0 1 = cc in absurd (omega arith)
 
-  pub stop : {p t : ℕ} {m n : Memory} {e : Ending} → Flat p t m e → p < count → next sh (get_or rs p unset) p t m ≡ stops n → e ≡ stuck n
-  stop (over h) l x = absurd (omega arith)
-  stop (on h k y f) l x = let z : ◌≡◌ {A = ℕ} 0 1 = cc in absurd (omega arith)
-  stop {n = n} (halt {n = n'} h y) l x = let d : n' ≡ n = cc in ap stuck d
-
-  pub end : {p t : ℕ} {m : Memory} {e : Ending} → Flat p t m e → count ≤ p → e ≡ finished t m
-  end (over h) l = refl
-  end (on h k y f) l = absurd (omega arith)
-  end (halt h y) l = absurd (omega arith)
-
   pub here : {p t q u : ℕ} {m n : Memory} {e : Ending} → Flat p t m e → p < count → next sh (get_or rs p unset) p t m ≡ goes q u n → Placed (plain (get_or rs p unset))
   here (over h) l x = absurd (omega arith)
   here (on h k y f) l x = k
@@ -231,68 +221,4 @@ starts p sh c k t m =
     (λ i j. ap (λ (k : ℕ). get_or p.instructions k unset) (omega arith) ∙ sym (get_or-take p.count p.instructions i unset (omega (arith, long p.instructions p.count sh c))) ∙ ap (λ xs. get_or xs i unset) k.instructions) in
     covers p.instructions p.count sh c 0 P (omega arith) k.placed t finished (λ u o k. over (omega arith)) t m (omega arith)
 
--- an instruction without a block
-acts : (sh : Sheet) (r : Instruction) (p t : ℕ) (m : Memory) → ((v w : ℕ) → r ≡ IfVariable v w → ⊥) → ((v w : ℕ) → r ≡ IfCondition v w → ⊥) → ((w : ℕ) → r ≡ Jump w → ⊥)
-    → ((v w : ℕ) → r ≡ Loop v w → ⊥) → ((v w : ℕ) → r ≡ Again v w → ⊥) → next sh r p t m ≡ goes (p + 1) t (memory_after (run sh (plain r) 0 m))
-acts sh (IfVariable v w) p t m a b c d e = absurd (a v w refl)
-acts sh (IfCondition v w) p t m a b c d e = absurd (b v w refl)
-acts sh (Jump w) p t m a b c d e = absurd (c w refl)
-acts sh (Loop v w) p t m a b c d e = absurd (d v w refl)
-acts sh (Again v w) p t m a b c d e = absurd (e v w refl)
-acts sh _ p t m a b c d e = refl
-
--- each instruction's move
-module _ {rs : List Instruction} {count : ℕ} {sh : Sheet} {p t : ℕ} {m : Memory} {e : Ending} (f : Flat rs count sh p t m e) (l : p < count) where
-  pub variable_zero : {v way : ℕ} → get_or rs p unset ≡ IfVariable v way → true ≡ is_zero (m.values v) → Flat rs count sh (p + 1 + way) t m e
-  variable_zero h z = step rs count sh f l (rw (h, ← z) refl)
-
-  pub variable_other : {v way : ℕ} → get_or rs p unset ≡ IfVariable v way → false ≡ is_zero (m.values v) → Flat rs count sh (p + 1) t m e
-  variable_other h z = step rs count sh f l (rw (h, ← z) refl)
-
-  pub condition_down : {v way : ℕ} → get_or rs p unset ≡ IfCondition v way → false ≡ m.up v → Flat rs count sh (p + 1 + way) t m e
-  condition_down h z = step rs count sh f l (rw (h, ← z) refl)
-
-  pub condition_up : {v way : ℕ} → get_or rs p unset ≡ IfCondition v way → true ≡ m.up v → Flat rs count sh (p + 1) t m e
-  condition_up h z = step rs count sh f l (rw (h, ← z) refl)
-
-  pub jumps : {way : ℕ} → get_or rs p unset ≡ Jump way → Flat rs count sh (p + 1 + way) t m e
-  jumps h = step rs count sh f l (rw h refl)
-
-  pub loop_over : {v way : ℕ} → get_or rs p unset ≡ Loop v way → true ≡ is_zero (m.values v) → Flat rs count sh (p + 1 + way) t m e
-  loop_over h z = step rs count sh f l (rw (h, ← z) refl)
-
-  pub loop_stop : {v way : ℕ} → get_or rs p unset ≡ Loop v way → false ≡ is_zero (m.values v) → t ≡ 0 → e ≡ stuck m
-  loop_stop h z q = stop rs count sh f l (rw (h, ← z, q) refl)
-
-  pub loop_turn : {v way u : ℕ} → get_or rs p unset ≡ Loop v way → false ≡ is_zero (m.values v) → t ≡ suc u → Flat rs count sh (p + 1) u m e
-  loop_turn h z q = step rs count sh f l (rw (h, ← z, q) refl)
-
-  pub again_over : {v way : ℕ} → get_or rs p unset ≡ Again v way → true ≡ is_zero (m.values v) → Flat rs count sh (p + 1) t m e
-  again_over h z = step rs count sh f l (rw (h, ← z) refl)
-
-  pub again_stop : {v way : ℕ} → get_or rs p unset ≡ Again v way → false ≡ is_zero (m.values v) → t ≡ 0 → e ≡ stuck m
-  again_stop h z q = stop rs count sh f l (rw (h, ← z, q) refl)
-
-  pub again_turn : {v way u : ℕ} → get_or rs p unset ≡ Again v way → false ≡ is_zero (m.values v) → t ≡ suc u → Flat rs count sh (p + 1 - way) u m e
-  again_turn h z q = step rs count sh f l (rw (h, ← z, q) refl)
-
-  pub acted : {n : Memory} → ((v w : ℕ) → get_or rs p unset ≡ IfVariable v w → ⊥) → ((v w : ℕ) → get_or rs p unset ≡ IfCondition v w → ⊥) → ((w : ℕ) → get_or rs p unset ≡ Jump w → ⊥)
-      → ((v w : ℕ) → get_or rs p unset ≡ Loop v w → ⊥) → ((v w : ℕ) → get_or rs p unset ≡ Again v w → ⊥)
-      → (Placed (plain (get_or rs p unset)) → n ≡ memory_after (run sh (plain (get_or rs p unset)) 0 m)) → Flat rs count sh (p + 1) t n e
-  acted a b c d i y =
-      let x = acts sh (get_or rs p unset) p t m a b c d i in
-      subst (λ n. Flat rs count sh (p + 1) t n e) (sym (y (here rs count sh f l x))) (step rs count sh f l x)
-
-pub ruleset moves = (starts, variable_zero, variable_other, condition_down, condition_up, jumps, loop_over, loop_stop, loop_turn, again_over, again_stop, again_turn, acted)
-
--- from how a run ends to what the code answers
-pub ends_done : (t : ℕ) (m : Memory) (o : Outcome) → follow o finished ≡ finished t m → Ends (Some t) m o
-ends_done t m (done u n l) e =
-    let a : t ≡ u = cc in
-    let b : m ≡ n = cc in
-    (ap Some a, b)
-ends_done t m (spent n l) e = let z : ◌≡◌ {A = ℕ} 0 1 = cc in absurd (omega arith)
-
-pub ends_spent : (r : Option ℕ) (m : Memory) (o : Outcome) → r ≡ None → follow o finished ≡ stuck m → Ends r m o
-ends_spent r m (done u n l) q e = let z : ◌≡◌ {A = ℕ} 0 1 = cc in absurd (omega arith)
-ends_spent r m (spent n l) q e = let b : m ≡ n = cc in (q, b)
+pub ruleset moves = (starts, step, here)
