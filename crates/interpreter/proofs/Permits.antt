@@ -1,8 +1,8 @@
 -- The test of a permit's mask is the machine's question whether all its conditions are up. Assumes nothing.
-use Rattle.std.proofs.Common.{◌≡◌, ℕ, zero, suc, ◌^◌, ◌<◌, ◌≤◌, Bool, true, not, ◌&&◌, ◌||◌, eqb, length, get_or, sym, refl, ap, ◌∙◌, inl, inr, arith}
+use Rattle.std.proofs.Common.{◌≡◌, ℕ, zero, suc, ◌^◌, ◌<◌, ◌≤◌, Bool, true, not, ◌&&◌, ◌||◌, eqb, leb, length, get_or, sym, refl, ap, ◌∙◌, inl, inr, arith}
 use lib.Bits.{bit_and}
 use lib.ListN.{get_or-eq_default}
-use Rattle.std.proofs.lemmas.Bool.{cases_eq, lt-ltb}
+use Rattle.std.proofs.lemmas.Bool.{cases_eq, lt-ltb, le-leb}
 use Rattle.policy.specs.Policy.{Set, leaf}
 use Rattle.policy.specs.Masks.{bit, members, has_first, within}
 use Rattle.policy.proofs.Masks.{bit_high, within_none, within_test}
@@ -40,11 +40,8 @@ pub all_up_test : (mask u : ℕ) → mask < 2 ^ 16 → eqb (bit_and mask u) mask
 all_up_test mask u h = within_test mask u h ∙ all_up mask (members u) h
 
 module _ (m : FlowMasks) (sh : Sheet) (E : Enforces m sh) (p u : ℕ) where
-  pub permit_declared : p < m.permits → permitted (get_or m.permit p no_permit).conditions (members u) ≡ permitted (permit_at sh p).conditions (members u)
-  permit_declared h = ap (λ (k : ℕ). permitted k (members u)) (E.conditions p (lt-ltb p (length sh.permits) (omega (arith, E.permits))))
-
-  pub permit_undeclared : m.permits ≤ p → true ≡ permitted (permit_at sh p).conditions (members u)
+  pub permit_undeclared : m.permits ≤ p → leb m.permits p ≡ permitted (permit_at sh p).conditions (members u)
   permit_undeclared h =
       let long : length sh.permits ≤ p = omega (arith, E.permits) in
-      sym (within_none (members u)) ∙ all_up 0 (members u) (omega arith)
+      le-leb m.permits p h ∙ sym (within_none (members u)) ∙ all_up 0 (members u) (omega arith)
       ∙ sym (ap (λ (x : Permit). permitted x.conditions (members u)) (get_or-eq_default sh.permits (record { conditions = 0; from = leaf 0; to = leaf 0 }) long))
