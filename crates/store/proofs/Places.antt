@@ -74,14 +74,14 @@ module _ (s : SparseStore) (p : ℕ) (h : p < 64) where
 
   free : is_zero old ≡ true → (s.used ≡ both) × (es ≡ lower ++ (upper ++ replicate (63 - both + 1) unused))
   free z = (
-    counted es s.used s.kept ∙ ap (λ l. length (used_from 0 l)) (sym same) ∙ count_free old z,
-    normal es s.used s.kept ∙ ap entries_of (sym same) ∙ entries_free old z,
+    counted es s.used s.kept s.ordered ∙ ap (λ l. length (used_from 0 l)) (sym same) ∙ count_free old z,
+    normal es s.used s.kept s.ordered ∙ ap entries_of (sym same) ∙ entries_free old z,
   )
 
   held : is_zero old ≡ false → (s.used ≡ both + 1) × (es ≡ lower ++ (record { place = p; value = old } ∷ (upper ++ replicate (63 - both) unused)))
   held z = (
-    counted es s.used s.kept ∙ ap (λ l. length (used_from 0 l)) (sym same) ∙ count_held old z,
-    normal es s.used s.kept ∙ ap entries_of (sym same) ∙ entries_held old z,
+    counted es s.used s.kept s.ordered ∙ ap (λ l. length (used_from 0 l)) (sym same) ∙ count_held old z,
+    normal es s.used s.kept s.ordered ∙ ap entries_of (sym same) ∙ entries_held old z,
   )
 
   before_is : before p es ≡ length lower
@@ -91,7 +91,7 @@ module _ (s : SparseStore) (p : ℕ) (h : p < 64) where
       let r = replicate k unused in
       let above = used_from p (old ∷ drop (suc p) vs) in
       let e : es ≡ lower ++ (above ++ r) =
-      normal es s.used s.kept ∙ ap (λ l. l ++ r) (ap (used_from 0) (sym same) ∙ used_set old) ∙ append_assoc lower above r in
+      normal es s.used s.kept s.ordered ∙ ap (λ l. l ++ r) (ap (used_from 0) (sym same) ∙ used_set old) ∙ append_assoc lower above r in
       ap (before p) e ∙ before_lower 0 (take p vs) (above ++ r) p (omega (arith, length-take-le p vs (omega (arith, long))))
       ∙ ap (λ m. length lower + m) (before_upper p (old ∷ drop (suc p) vs) k p h (omega arith)) ∙ omega arith
 

@@ -47,7 +47,7 @@ module _ (s : SparseStore) (p : ℕ) (h : p < 64) where
   front_place i l = ap (λ (e : Entry). e.place) (get_or-take s.used es i unused l)
 
   below : (i j : ℕ) → i < j → j < s.used → (get_or front i unused).place < (get_or front j unused).place
-  below i j l u = rising 0 front i j unused s.kept.ordered l (omega (arith, front_length))
+  below i j l u = rising 0 front i j unused s.ordered l (omega (arith, front_length))
 
   rises : IsNonDecreasingBy (λ e. ordering_index (nat_cmp e.place p)) front
   rises = IsNonDecreasingBy-from_default (λ e. ordering_index (nat_cmp e.place p)) front unused (λ i j le lt.

@@ -88,13 +88,13 @@ rising q (e ∷ es) zero (suc j) d h k l = let a = parts q e es h in omega (arit
 rising q (e ∷ es) (suc i) (suc j) d h k l = let a = parts q e es h in rising (e.place + 1) es i j d a.rest (omega arith) (omega arith)
 
 -- Entries of which the first ascend and the others are unused are the entries of the values that they give.
-module _ (es : List Entry) (used : ℕ) (k : Kept es used) where
+module _ (es : List Entry) (used : ℕ) (k : Kept es used) (ordered : ascend_from 0 (take used es) ≡ true) where
   split : es ≡ take used es ++ replicate (64 - used) unused
   split = sym (take-append-drop used es) ∙ ap (λ l. take used es ++ l) k.blank
 
   first : used_from 0 (values_of es) ≡ take used es
   unfolding values_of
-  first = used_given 64 0 refl (take used es) (64 - used) k.ordered (value_at es) (λ p l b. ap (λ x. value_at x p) split)
+  first = used_given 64 0 refl (take used es) (64 - used) ordered (value_at es) (λ p l b. ap (λ x. value_at x p) split)
 
   long : length (take used es) ≡ used
   long = let full = k.full in let room = k.room in length-take-le used es (omega arith)
@@ -107,9 +107,10 @@ module _ (es : List Entry) (used : ℕ) (k : Kept es used) where
   normal = split ∙ ap (λ n. take used es ++ replicate (64 - n) unused) (sym long) ∙ ap (λ l. l ++ replicate (64 - length l) unused) (sym first)
 
 -- Equal values come of equal entries, and of as many.
-module _ {es fs : List Entry} {m n : ℕ} (k : Kept es m) (l : Kept fs n) (e : values_of es ≡ values_of fs) where
+module _ {es fs : List Entry} {m n : ℕ} (k : Kept es m) (o : ascend_from 0 (take m es) ≡ true) (l : Kept fs n) (q : ascend_from 0 (take n fs) ≡ true)
+    (e : values_of es ≡ values_of fs) where
   pub same_entries : es ≡ fs
-  same_entries = normal es m k ∙ ap entries_of e ∙ sym (normal fs n l)
+  same_entries = normal es m k o ∙ ap entries_of e ∙ sym (normal fs n l q)
 
   pub same_used : m ≡ n
-  same_used = counted es m k ∙ ap (λ vs. length (used_from 0 vs)) e ∙ sym (counted fs n l)
+  same_used = counted es m k o ∙ ap (λ vs. length (used_from 0 vs)) e ∙ sym (counted fs n l q)

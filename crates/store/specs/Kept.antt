@@ -1,16 +1,15 @@
 -- What the entries of a sparse store and their count keep. Assumes nothing.
-use Rattle.std.specs.Prelude.{◌≡◌, ℕ, ◌-◌, ◌≤◌, true, List, length, take, drop, replicate}
+use Rattle.std.specs.Prelude.{◌≡◌, ℕ, ◌-◌, ◌≤◌, List, length, drop, replicate}
 use Rattle.std.proofs.Math.Nat.{ℕ_set}
 use Rattle.std.proofs.Math.IntN.{ℤ_set}
 use Rattle.std.proofs.Props.{props}
 use Rattle.store.specs.declared.entry.Entry.{Entry}
-use Rattle.store.specs.Entries.{unused, ascend_from}
+use Rattle.store.specs.Entries.{unused}
 
--- 64 entries, of which the used ones ascend and the others hold nothing.
+-- 64 entries, of which the unused ones hold nothing.
 pub record Kept (es : List Entry) (used : ℕ) : Type 0 where
   pub full : length es ≡ 64
   pub room : used ≤ 64
-  pub ordered : ascend_from 0 (take used es) ≡ true
   pub blank : drop used es ≡ replicate (64 - used) unused
 
 pub kept_prop : (es : List Entry) (used : ℕ) → IsProp (Kept es used)

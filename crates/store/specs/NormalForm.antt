@@ -1,5 +1,5 @@
 -- The entries of 64 values: they give the values back, and a store keeps them. Assumes nothing.
-use Rattle.std.specs.Prelude.{◌≡◌, ℕ, ◌-◌, ◌<◌, List, length, take, drop, replicate, ℤ, pos, slice_index_or}
+use Rattle.std.specs.Prelude.{◌≡◌, ℕ, ◌-◌, ◌<◌, true, List, length, take, drop, replicate, ℤ, pos, slice_index_or}
 use Rattle.std.proofs.Common.{sym, ◌∙◌}
 use Rattle.std.proofs.Math.Path.{ap}
 use native.Mathlib.Omega.{arith}
@@ -36,6 +36,7 @@ values_entries vs n =
 -- Entries and a count that are kept for the values ws.
 pub record KeptFor (es : List Entry) (used : ℕ) (ws : List ℤ) : Type 0 where
   pub kept : Kept es used
+  pub ordered : ascend_from 0 (take used es) ≡ true
   pub values : values_of es ≡ ws
 
 pub kept_for : (es : List Entry) (used : ℕ) (ws : List ℤ) → length ws ≡ 64 → es ≡ entries_of ws → used ≡ length (used_from 0 ws) → KeptFor es used ws
@@ -44,8 +45,8 @@ kept_for es used ws n e u = record {
   kept = record {
     full = ap length e ∙ length_entries ws n;
     room = omega (arith, used_short 0 ws);
-    ordered = ap (ascend_from 0) (ap (take used) e ∙ take_at (used_from 0 ws) _ used (sym u)) ∙ ascend_used 0 ws (omega arith);
     blank = ap (drop used) e ∙ drop_at (used_from 0 ws) _ used (sym u) ∙ ap (λ m. replicate (64 - m) unused) (sym u);
   };
+  ordered = ap (ascend_from 0) (ap (take used) e ∙ take_at (used_from 0 ws) _ used (sym u)) ∙ ascend_used 0 ws (omega arith);
   values = ap values_of e ∙ values_entries ws n;
 }

@@ -1,12 +1,13 @@
 // A store that keeps the values that are not zero.
-ghost use Rattle.std.specs.Prelude.{◌≡◌, ◌<◌, ◌≤◌, length, MatchResult};
+ghost use Rattle.std.specs.Prelude.{◌≡◌, ◌<◌, ◌≤◌, true, length, take, MatchResult};
 ghost use Rattle.std.proofs.Common.{arith};
-ghost use Rattle.store.specs.Entries.{values_of};
+ghost use Rattle.store.specs.Entries.{values_of, ascend_from};
 ghost use Rattle.store.specs.Kept.{Kept, kept_prop};
 ghost use Rattle.store.specs.Examples.{example_values, example_image};
 ghost use Rattle.store.specs.Images.{sparse_image};
 ghost use Rattle.store.specs.Positions.{position_of};
 ghost use Rattle.store.specs.NormalForm.{length_values};
+ghost use Rattle.std.proofs.Math.Bool.{Bool-set};
 ghost use mathlib.Core.HLevel.{is_prop→PathP};
 ghost use Rattle.store.specs.Ascending.{same_entries, same_used};
 ghost use Rattle.store.specs.ImagesLemmas.{length_sparse};
@@ -22,6 +23,7 @@ pub struct SparseStore {
     entries: [Entry; PLACES],
     used: usize,
     ghost kept: { Kept entries used } by { kept_prop entries used },
+    ghost ordered: { ascend_from 0 (take used entries) ≡ true },
 }
 
 impl SparseStore {
@@ -42,14 +44,15 @@ impl Store for SparseStore {
 
     ghost long = { λ s. length_values s.entries };
 
-    // Equal values give a path through entries and count, and what these keep has one proof at most.
+    // Equal values give a path through entries and count, and what they keep has one proof at most.
     ghost same = { λ s t e i.
-        let p = same_entries s.kept t.kept e in
-        let u = same_used s.kept t.kept e in
+        let p = same_entries s.kept s.ordered t.kept t.ordered e in
+        let u = same_used s.kept s.ordered t.kept t.ordered e in
         record {
           entries = p i;
           used = u i;
           kept = is_prop→PathP (λ j. Kept (p j) (u j)) (λ j. kept_prop (p j) (u j)) s.kept t.kept i;
+          ordered = is_prop→PathP (λ j. ascend_from 0 (take (u j) (p j)) ≡ true) (λ j. Bool-set (ascend_from 0 (take (u j) (p j))) true) s.ordered t.ordered i;
         } };
 
     ghost fixed = { λ vs ws v w. omega (arith, length_sparse vs v, length_sparse ws w) };

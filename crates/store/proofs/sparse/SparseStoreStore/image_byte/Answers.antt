@@ -13,7 +13,7 @@ returns-in-Some c =
     let at = c.args.at in
     let found = c.in-Some.ensures.lookup in
     ap (λ w. get_or w (at % 5) 0) c.from.ensures ∙ ap (λ e. get_or (entry_bytes e) (at % 5) 0) found.1
-    ∙ sym (get_or_sparse (values_of s.entries) s.entries (normal s.entries s.used s.kept) at c.in-Some.entry.now found.3.0)
+    ∙ sym (get_or_sparse (values_of s.entries) s.entries (normal s.entries s.used s.kept s.ordered) at c.in-Some.entry.now found.3.0)
 
 pub returns-in-None : goal.returns-in-None
 returns-in-None c =

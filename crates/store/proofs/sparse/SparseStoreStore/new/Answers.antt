@@ -8,7 +8,7 @@ unfolding used_from entries_of
 zeros = kept_for (replicate 64 unused) 0 (replicate 64 (pos 0)) refl refl refl
 
 pub invariant_of-result : goal.invariant_of-result
-invariant_of-result c = record { kept = zeros.kept }
+invariant_of-result c = record { kept = zeros.kept; ordered = zeros.ordered }
 
 pub returns : goal.returns
 returns c = zeros.values

@@ -20,7 +20,7 @@ removed c =
     v (zero_from_bits v c.ranges.value c.if-value-eq0.true) c.remove.new.entries c.remove.ensures
 
 pub invariant_of-self : goal.invariant_of-self
-invariant_of-self c = record { kept = (removed c).kept }
+invariant_of-self c = let k = removed c in record { kept = k.kept; ordered = k.ordered }
 
 pub returns-in-Ok-clause-values : goal.returns-in-Ok-clause-values
 returns-in-Ok-clause-values c = (removed (goal.at.returns-in-Ok-clause-values c).After-remove).values
@@ -35,7 +35,7 @@ written c =
     (ap (λ x. set c.args.self.now.entries c.in-Ok.at record { place = c.args.place; value = x }) (to_z-of_z w32 v c.ranges.value))
 
 pub invariant_of-self-in-Ok-2 : goal.invariant_of-self-in-Ok-2
-invariant_of-self-in-Ok-2 c = record { kept = (written c).kept }
+invariant_of-self-in-Ok-2 c = let k = written c in record { kept = k.kept; ordered = k.ordered }
 
 pub returns-in-Ok-2-clause-values : goal.returns-in-Ok-2-clause-values
 returns-in-Ok-2-clause-values c = (written (goal.at.returns-in-Ok-2-clause-values c).In-Ok-2).values
@@ -49,7 +49,7 @@ inserted c =
     v (other_from_bits v f c.if-value-eq0-2.false) c.insert.new.entries (simp to_z-of_z at c.insert.ensures)
 
 pub invariant_of-self-in-Err-2 : goal.invariant_of-self-in-Err-2
-invariant_of-self-in-Err-2 c = record { kept = (inserted c).kept }
+invariant_of-self-in-Err-2 c = let k = inserted c in record { kept = k.kept; ordered = k.ordered }
 
 pub returns-in-Err-2-clause-values : goal.returns-in-Err-2-clause-values
 returns-in-Err-2-clause-values c = (inserted (goal.at.returns-in-Err-2-clause-values c).After-insert).values
