@@ -2,7 +2,7 @@
 ghost use Rattle.std.specs.Prelude.{◌≡◌, length, take};
 ghost use Rattle.flow.specs.TableFlows.{conditions_in, variables_in, permits_in, ConditionsBelow, VariablesInto, VariablesFrom, InflowOf, VariableFlowOf, PermitFlowOf, IntoVariables, IntoConditions, ByPermits, leaf_row};
 
-use crate::items::{made_of, mask_where};
+use crate::items::{declared, made_of, mask_where};
 use crate::masks::{Inflow, PermitFlow, VariableFlow};
 use lattice::Lattice;
 use policy::Row;
@@ -21,8 +21,7 @@ impl<L: Lattice> Flows<'_, L> {
         ensures items { result.now ≡ take (conditions_in self.now.table.now) self.now.table.now.levels }
         ensures count { length result.now ≡ conditions_in self.now.table.now }
     {
-        let levels: &[u32] = &self.table.levels;
-        &levels[..self.table.conditions.min(levels.len())]
+        declared(&self.table.levels, self.table.conditions)
     }
 
     // The rows of the declared variables.
@@ -30,8 +29,7 @@ impl<L: Lattice> Flows<'_, L> {
         ensures items { result.now ≡ take (variables_in self.now.table.now) self.now.table.now.rows }
         ensures count { length result.now ≡ variables_in self.now.table.now }
     {
-        let rows: &[VariableRow] = &self.table.rows;
-        &rows[..self.table.variables.min(rows.len())]
+        declared(&self.table.rows, self.table.variables)
     }
 
     // The declared permits.
@@ -39,8 +37,7 @@ impl<L: Lattice> Flows<'_, L> {
         ensures items { result.now ≡ take (permits_in self.now.table.now) self.now.table.now.grants }
         ensures count { length result.now ≡ permits_in self.now.table.now }
     {
-        let grants: &[Grant] = &self.table.grants;
-        &grants[..self.table.permits.min(grants.len())]
+        declared(&self.table.grants, self.table.permits)
     }
 
     // The conditions whose levels are below this one.

@@ -1,9 +1,16 @@
-// What is decided of each item of a slice: as a mask, or as an array.
-ghost use Rattle.std.specs.Prelude.{◌≤◌, length, slice_index_or};
+// The declared items of a table, and what is decided of each of them: as a mask, or as an array.
+ghost use Rattle.std.specs.Prelude.{◌≡◌, ◌≤◌, length, min, take, slice_index_or};
 ghost use Rattle.std.specs.Fn.{FnReturnsAt};
 ghost use Rattle.flow.specs.TableFlows.{EachBit, MadeAt, MadeOfEach};
 
 use std::array;
+
+// The first items, as many as are declared; all of them where more are declared than there are.
+pub(crate) fn declared<T>(items: &[T], count: usize) -> &[T]
+    ensures { result.now ≡ take (min count (length items.now)) items.now }
+{
+    &items[..count.min(items.len())]
+}
 
 // The places of the items of which a test holds.
 pub(crate) fn mask_where<T, F: Fn(&T) -> bool>(items: &[T], test: F) -> u64
