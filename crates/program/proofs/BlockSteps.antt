@@ -436,7 +436,7 @@ module _ (m : FlowMasks) (pc : Masks) (opened : ℕ) (inner : Option Innermost) 
             goes = branch_goes;
           }
 
--- ── equal places ──
+-- ── equal places, contexts, masks and kinds ──
 
 module _ (m : FlowMasks) (pc : Masks) (opened : ℕ) (inner : Option Innermost) {p q : ℕ} (e : p ≡ q) where
   pub refused_at : {rs : List Record} {x : Refusal} → Refused m pc opened inner p rs x → Refused m pc opened inner q rs x
@@ -448,14 +448,19 @@ module _ (m : FlowMasks) (pc : Masks) (opened : ℕ) (inner : Option Innermost) 
   pub reads_to : {place : ℕ} {rs left : List Record} {xs ys : List Instruction} → Reads m pc opened inner place rs xs ys p left → Reads m pc opened inner place rs xs ys q left
   reads_to {place = place} {rs = rs} {left = left} {xs = xs} {ys = ys} h = subst (λ n. Reads m pc opened inner place rs xs ys n left) e h
 
--- ── equal contexts and kinds ──
+pub block_kept : {m : FlowMasks} {pc : Masks} {opened place next : ℕ} {inner : Option Innermost} {rs rest : List Record} {xs ys zs : List Instruction}
+    → BlockRead m pc opened inner place rs xs ys next rest → ys ≡ zs → BlockRead m pc opened inner place rs xs zs next rest
+block_kept {m} {pc} {opened} {place} {next} {inner} {rs} {rest} {xs} {ys} {zs} h e = subst (λ l. BlockRead m pc opened inner place rs xs l next rest) e h
 
-module _ (m : FlowMasks) {pc pc' : Masks} (opened : ℕ) (inner : Option Innermost) (e : pc ≡ pc') where
-  pub passed_under : {place : ℕ} {r : Record} {k k' : RecordKind} → k ≡ k' → Passed m pc opened inner place r k → Passed m pc' opened inner place r k'
-  passed_under {place = place} {r = r} {k = k} {k' = k'} f h = subst (λ x. Passed m x opened inner place r k') e (subst (λ x. Passed m pc opened inner place r x) f h)
+module _ {m m' : FlowMasks} (d : m ≡ m') {pc pc' : Masks} (opened : ℕ) (inner : Option Innermost) (e : pc ≡ pc') where
+  pub passed_under : {place : ℕ} {r : Record} {k k' : RecordKind} → k ≡ k' → Passed m pc opened inner place r k → Passed m' pc' opened inner place r k'
+  passed_under {place = place} {r = r} f h = coe 0 1 (i. Passed (d i) (e i) opened inner place r (f i)) h
 
-  pub refused_under : {place : ℕ} {rs : List Record} {x : Refusal} → Refused m pc opened inner place rs x → Refused m pc' opened inner place rs x
-  refused_under {place = place} {rs = rs} {x = x} h = subst (λ y. Refused m y opened inner place rs x) e h
+  pub refused_under : {place : ℕ} {rs : List Record} {x : Refusal} → Refused m pc opened inner place rs x → Refused m' pc' opened inner place rs x
+  refused_under {place = place} {rs = rs} {x = x} h = coe 0 1 (i. Refused (d i) (e i) opened inner place rs x) h
 
-  pub reads_under : {place next : ℕ} {rs left : List Record} {xs ys : List Instruction} → Reads m pc opened inner place rs xs ys next left → Reads m pc' opened inner place rs xs ys next left
-  reads_under {place = place} {next = next} {rs = rs} {left = left} {xs = xs} {ys = ys} h = subst (λ y. Reads m y opened inner place rs xs ys next left) e h
+  pub reads_under : {place next : ℕ} {rs left : List Record} {xs ys : List Instruction} → Reads m pc opened inner place rs xs ys next left → Reads m' pc' opened inner place rs xs ys next left
+  reads_under {place = place} {next = next} {rs = rs} {left = left} {xs = xs} {ys = ys} h = coe 0 1 (i. Reads (d i) (e i) opened inner place rs xs ys next left) h
+
+  pub block_under : {place next : ℕ} {rs rest : List Record} {xs ys : List Instruction} → BlockRead m pc opened inner place rs xs ys next rest → BlockRead m' pc' opened inner place rs xs ys next rest
+  block_under {place = place} {next = next} {rs = rs} {rest = rest} {xs = xs} {ys = ys} h = coe 0 1 (i. BlockRead (d i) (e i) opened inner place rs xs ys next rest) h

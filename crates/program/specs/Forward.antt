@@ -3,8 +3,7 @@ use Rattle.std.specs.Prelude.{◌≡◌, ◌+◌, ◌*◌, ◌<◌, ◌≤◌, �
 use Rattle.records.specs.declared.cursor.Cursor.{Cursor}
 use Rattle.records.specs.declared.refusal.Refusal.{Refusal}
 use Rattle.records.specs.Records.{records}
-use Rattle.flow.specs.declared.masks.FlowMasks.{FlowMasks}
-use Rattle.program.specs.declared.context.Context.{Context as Masks}
+use Rattle.program.specs.declared.checker.Checker.{Checker}
 use Rattle.program.specs.declared.innermost.Innermost.{Innermost}
 use Rattle.program.specs.declared.kept.Instruction.{Instruction}
 use Rattle.program.specs.declared.placed.Placed.{Placed}
@@ -23,8 +22,13 @@ BlockForward (Some i) a b = SameEnd a b × (a.place < b.place)
 abbrev pub Forward : Placed → Cursor → Type 0
 Forward at b = SameEnd at.behind b × (at.place < b.place)
 
+-- no more than what is kept is changed
+pub record Restored (before after : Checker) : Type 0 where
+  pub masks : after.masks.now ≡ before.masks.now
+  pub context : after.context ≡ before.context
+
 -- the command is kept, or refused
-abbrev pub CommandRead : FlowMasks → Masks → Option Innermost → Placed → List Instruction → List Instruction → Result Cursor Refusal → Type 0
-CommandRead m pc inner at before after r = MatchResult r
-    (λ p. Reads m pc at.opened inner at.place (at.first ∷ records at.behind.left.now) before after p.place (records p.left.now))
-    (λ e. Refused m pc at.opened inner at.place (at.first ∷ records at.behind.left.now) e)
+abbrev pub CommandRead : Checker → Option Innermost → Placed → List Instruction → Result Cursor Refusal → Type 0
+CommandRead k inner at after r = MatchResult r
+    (λ p. Reads k.masks.now k.context at.opened inner at.place (at.first ∷ records at.behind.left.now) k.instructions after p.place (records p.left.now))
+    (λ e. Refused k.masks.now k.context at.opened inner at.place (at.first ∷ records at.behind.left.now) e)

@@ -2,6 +2,7 @@
 #![tactic(auto)]
 
 mod blocks;
+mod checker;
 mod checks;
 mod context;
 mod fields;

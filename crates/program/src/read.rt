@@ -2,7 +2,7 @@
 ghost use Rattle.std.specs.Result.{MatchResult};
 ghost use Rattle.program.specs.Loading.{ProgramRead, ProgramRefused};
 
-use crate::blocks::check_block;
+use crate::checker::Checker;
 use crate::context::Context;
 use crate::kept::{Instruction, Program};
 use crate::placed::Block;
@@ -21,22 +21,20 @@ pub fn read_program(masks: &FlowMasks, bytes: &[u8]) -> Result<Program, Refusal>
     if bytes.len() % 8 != 0 || bytes.len() > PROGRAM_BYTES {
         return Err(Rule::ProgramLength.at(0, 0));
     }
-    let mut instructions = [Instruction::End; 256];
-    let mut context = Context::default();
+    let inside = Context::default();
+    let mut checker = Checker {
+        masks,
+        context: inside,
+        instructions: [Instruction::End; 256],
+    };
     let outermost = Block {
         opened: 0,
         innermost: None,
-        inside: context,
+        inside,
     };
-    let end = check_block(
-        masks,
-        Cursor::new(bytes),
-        outermost,
-        &mut context,
-        &mut instructions,
-    )?;
+    let end = checker.check_block(Cursor::new(bytes), outermost)?;
     Ok(Program {
         count: end.place,
-        instructions,
+        instructions: checker.instructions,
     })
 }

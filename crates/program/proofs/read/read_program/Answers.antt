@@ -14,10 +14,10 @@ returns-in_err-end c =
     let m : length c.args.bytes.now % 8 ≡ 0 = search rules in
     let l : length c.args.bytes.now ≤ 2048 = search rules in
     let p = err_from_is_err_and c.from_residual.result c.from_residual.ensures.1 in
-    rw (p.1, p.2) (program_refused _ _ m l _ c.default-context.ensures c.new.result c.new.ensures.place c.new.ensures.left _ c.in_err-end.ensures.answer)
+    rw (p.1, p.2) (program_refused _ _ m l _ c.default-inside.ensures c.new.result c.new.ensures.place c.new.ensures.left _ c.in_err-end.ensures.answer)
 
 pub returns : goal.returns
 returns c =
     let m : length c.args.bytes.now % 8 ≡ 0 = search rules in
     let l : length c.args.bytes.now ≤ 2048 = search rules in
-    program_read _ _ m l _ c.default-context.ensures c.new.result c.new.ensures.place c.new.ensures.left _ _ c.in_ok-end.end c.in_ok-end.ensures.answer refl c.in_ok-end.ensures.forward
+    program_read _ _ m l _ c.default-inside.ensures c.new.result c.new.ensures.place c.new.ensures.left _ _ c.in_ok-end.end c.in_ok-end.ensures.answer refl c.in_ok-end.ensures.forward

@@ -2,7 +2,7 @@ use Rattle.std.proofs.Common.{◌≡◌, ◌+◌, ◌*◌, ◌≤◌, length}
 use Rattle.records.specs.Records.{records}
 use Rattle.program.specs.Reading.{Reads}
 use Rattle.program.specs.Forward.{SameEnd}
-use Rattle.program.proofs.blocks.+blocks.Given as goal
+use Rattle.program.proofs.checker.Checker.+blocks.Given as goal
 
 abbrev pub decreases-check_block : goal.decreases-check_block
 decreases-check_block l = 3 * length l.cursor.left.now
@@ -20,10 +20,10 @@ abbrev pub invariant-check_block-loop-first : goal.invariant-check_block-loop-fi
 invariant-check_block-loop-first l = record {
   same_end : SameEnd l.cursor l.ahead;
   onward : l.cursor.place ≤ l.ahead.place;
-  room : length l.instructions ≡ 256;
-  context : l.guard.context.now ≡ l.initial.guard.context.now;
+  masks : l.guard.checker.now.masks.now ≡ l.fn.self.masks.now;
+  context : l.guard.checker.now.context ≡ l.block.inside;
   reads :
-      Reads l.masks l.initial.guard.context.now l.block.opened l.block.innermost l.cursor.place (records l.cursor.left.now) l.initial.instructions l.instructions l.ahead.place (records l.ahead.left.now);
+      Reads l.fn.self.masks.now l.block.inside l.block.opened l.block.innermost l.cursor.place (records l.cursor.left.now) l.fn.self.instructions l.guard.checker.now.instructions l.ahead.place (records l.ahead.left.now);
 }
 
 abbrev pub decreases-check_block-loop-first : goal.decreases-check_block-loop-first
