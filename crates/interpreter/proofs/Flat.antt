@@ -1,5 +1,5 @@
 -- A program as a list of instructions with jumps, one at a time, and that it does what its command does.
-use Rattle.std.proofs.Common.{◌≡◌, ℕ, zero, suc, ◌+◌, ◌-◌, ◌<◌, ◌≤◌, Bool, true, false, cond, List, [], ◌∷◌, ◌++◌, length, get_or, pos, Some, None, Option, sym, refl, ap, ◌∙◌, subst, arith, length-append, length-take-le, get_or-take}
+use Rattle.std.proofs.Common.{◌≡◌, ℕ, zero, suc, ◌+◌, ◌-◌, ◌<◌, ◌≤◌, Bool, true, false, cond, List, [], ◌∷◌, ◌++◌, length, get_or, pos, sym, refl, ap, ◌∙◌, subst, arith, length-append, length-take-le, get_or-take}
 use Rattle.sheet.specs.Sheet.{Sheet}
 use Rattle.machine.specs.Command.{Command, skip, ◌⨾◌, set, combine, release, raise, if_variable, if_condition, while}
 use Rattle.machine.specs.Memory.{Memory}
@@ -10,7 +10,7 @@ use Rattle.program.specs.declared.kept.Instruction.TheVariants.{Set, IfVariable,
 use Rattle.program.specs.declared.kept.Program.{Program}
 use Rattle.program.specs.Kept.{linked, size, Placed, Keeps}
 use Rattle.program.proofs.LetterSteps.{sign_of-kept}
-use Rattle.interpreter.specs.Parts.{plain, memory_after, Ends}
+use Rattle.interpreter.specs.Parts.{plain, memory_after}
 
 -- what a list gives beyond its end
 abbrev unset : Instruction

@@ -1,8 +1,8 @@
 -- The test of a permit's mask is the machine's question whether all its conditions are up. Assumes nothing.
-use Rattle.std.proofs.Common.{◌≡◌, ℕ, zero, suc, ◌^◌, ◌<◌, ◌≤◌, Bool, true, not, ◌&&◌, ◌||◌, eqb, leb, length, get_or, sym, refl, ap, ◌∙◌, inl, inr, arith}
+use Rattle.std.proofs.Common.{◌≡◌, ℕ, zero, suc, ◌^◌, ◌<◌, ◌≤◌, Bool, not, ◌&&◌, ◌||◌, eqb, leb, length, sym, refl, ap, ◌∙◌, inl, inr, arith}
 use lib.Bits.{bit_and}
 use lib.ListN.{get_or-eq_default}
-use Rattle.std.proofs.lemmas.Bool.{cases_eq, lt-ltb, le-leb}
+use Rattle.std.proofs.lemmas.Bool.{cases_eq, le-leb}
 use Rattle.policy.specs.Policy.{Set, leaf}
 use Rattle.policy.specs.Masks.{bit, members, has_first, within}
 use Rattle.policy.proofs.Masks.{bit_high, within_none, within_test}
@@ -10,7 +10,6 @@ use Rattle.sheet.specs.Sheet.{Sheet, Permit, permit_at}
 use Rattle.machine.specs.Memory.{every}
 use Rattle.machine.specs.Run.{permitted}
 use Rattle.flow.specs.declared.masks.FlowMasks.{FlowMasks}
-use Rattle.flow.specs.Flows.{no_permit}
 use Rattle.interpreter.specs.Meaning.{Enforces}
 
 module _ (mask : ℕ) (s : Set) where

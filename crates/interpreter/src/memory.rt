@@ -19,6 +19,7 @@ pub struct Memory<S: Store> {
 
 impl<S: Store> Memory<S> {
     /// Writes a variable; the write is dropped while a condition that wipes the variable is up. From 64 on there is none to write.
+    #[tactic(auto, using(crate::proofs::Memories::write_lands, crate::proofs::Memories::write_drops))]
     pub fn write(&mut self, masks: &FlowMasks, variable: u8, value: i32)
         ensures memory { (sh : Sheet) → Enforces masks.now sh → variable < 64 →
             meaning S.Store.values self.new ≡ write sh variable value (meaning S.Store.values self.old) }
