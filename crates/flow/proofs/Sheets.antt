@@ -19,7 +19,7 @@ use Rattle.machine.specs.SoundSheet.{SoundSheet, HasVariable, HasPermit}
 use Rattle.flow.specs.declared.masks.Inflow.{Inflow}
 use Rattle.flow.specs.declared.masks.PermitFlow.{PermitFlow}
 use Rattle.flow.specs.declared.masks.FlowMasks.{FlowMasks}
-use Rattle.flow.specs.Flows.{no_inflow, VariablesThat, Admits, Permits, MasksOf}
+use Rattle.flow.specs.Flows.{no_inflow, no_variable_flow, VariablesThat, Admits, Permits, MasksOf}
 use Rattle.flow.specs.TableFlows.{EachBit, row_of, leaf_row, conditions_in, variables_in, permits_in, VariablesInto, VariablesFrom, InflowOf, PermitFlowOf, TableFlows}
 use Rattle.machine.proofs.Sheets.{valid_sound}
 
@@ -88,11 +88,11 @@ module _ (C : Lattice) (t : SheetTable) (sh : Sheet) (R : Represents t sh) (V : 
     targets = out_of grant.to (permit_at sh p).to f.targets h.to (sound.permits p d).1 e.targets;
   }
 
-  wiped : (m : FlowMasks) → TableFlows C t m → (v c : ℕ) → bit c (get_or m.wipers v 0) ≡ wipes c (policy_of sh v)
+  wiped : (m : FlowMasks) → TableFlows C t m → (v c : ℕ) → bit c (get_or m.variable v no_variable_flow).wipers ≡ wipes c (policy_of sh v)
   wiped m f v c =
       elim (cases_lt v (length sh.variables)) [
-        | inl l ↦ ap (bit c) (f.wipers.below v (omega (arith, all_variables))) ∙ (R.rows v l).policy.wipers c
-        | inr l ↦ ap (bit c) (f.wipers.beyond v (omega (arith, all_variables))) ∙ bit_zero c ∙ sym (ap (λ x. wipes c x.policy) (get_or_past sh.variables v _ l))
+        | inl l ↦ ap (bit c) (f.variable.below v (omega (arith, all_variables))).wipers ∙ (R.rows v l).policy.wipers c
+        | inr l ↦ ap (λ x. bit c x.wipers) (f.variable.beyond v (omega (arith, all_variables))) ∙ bit_zero c ∙ sym (ap (λ x. wipes c x.policy) (get_or_past sh.variables v _ l))
       ]
 
   pub masks_of : (m : FlowMasks) → Lawful C → TableFlows C t m → MasksOf C sh m
@@ -100,7 +100,7 @@ module _ (C : Lattice) (t : SheetTable) (sh : Sheet) (R : Represents t sh) (V : 
     conditions = f.counts.0 ∙ all_conditions;
     variables = f.counts.1 ∙ all_variables;
     permits = f.counts.2 ∙ all_permits;
-    variable = λ v d. admits (row_of t v) (policy_of sh v) _ (variable_holds v d) (sound.variables v d) (f.variable.below v (omega (arith, all_variables, ltb-true _ _ d)));
+    variable = λ v d. admits (row_of t v) (policy_of sh v) _ (variable_holds v d) (sound.variables v d) (f.variable.below v (omega (arith, all_variables, ltb-true _ _ d))).inflow;
     condition = λ c d. leaf_admits (level_of sh c) _ (sound.conditions c d)
         (subst (λ l. InflowOf C t (leaf_row l) (get_or m.condition c no_inflow)) (R.levels c (ltb-true _ _ d)) (f.condition.below c (omega (arith, all_conditions, ltb-true _ _ d))));
     lowest = leaf_admits C.lowest m.lowest laws.lowest_known f.lowest;

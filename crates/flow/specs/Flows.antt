@@ -1,16 +1,20 @@
 -- What may flow where under a sheet, as masks: bit v for the variable v, bit c for the condition c; no bit for what is not declared.
-use Rattle.std.specs.Prelude.{◌≡◌, ℕ, true, length, Decides, slice_index, slice_index_or}
+use Rattle.std.specs.Prelude.{◌≡◌, ℕ, true, length, Decides, slice_index_or}
 use Rattle.lattice.specs.Lattice.{Lattice}
 use Rattle.policy.specs.Policy.{Policy, leaf, FlowsTo, present_level, wipes}
 use Rattle.policy.specs.Masks.{bit}
 use Rattle.sheet.specs.Sheet.{Sheet, Permit, policy_of, level_of, permit_at}
 use Rattle.machine.specs.SoundSheet.{HasVariable, HasCondition, HasPermit}
 use Rattle.flow.specs.declared.masks.Inflow.{Inflow}
+use Rattle.flow.specs.declared.masks.VariableFlow.{VariableFlow}
 use Rattle.flow.specs.declared.masks.PermitFlow.{PermitFlow}
 use Rattle.flow.specs.declared.masks.FlowMasks.{FlowMasks}
 
 abbrev pub no_inflow : Inflow
 no_inflow = record { variables = 0; conditions = 0 }
+
+abbrev pub no_variable_flow : VariableFlow
+no_variable_flow = record { inflow = no_inflow; wipers = 0 }
 
 abbrev pub no_permit : PermitFlow
 no_permit = record { conditions = 0; sources = 0; targets = 0 }
@@ -36,8 +40,8 @@ pub record MasksOf (C : Lattice) (sh : Sheet) (m : FlowMasks) : Type 0 where
   pub conditions : m.conditions ≡ length sh.conditions
   pub variables : m.variables ≡ length sh.variables
   pub permits : m.permits ≡ length sh.permits
-  pub variable : (v : ℕ) → HasVariable sh v → Admits C sh (slice_index_or m.variable v no_inflow) (policy_of sh v)
+  pub variable : (v : ℕ) → HasVariable sh v → Admits C sh (slice_index_or m.variable v no_variable_flow).inflow (policy_of sh v)
   pub condition : (c : ℕ) → HasCondition sh c → Admits C sh (slice_index_or m.condition c no_inflow) (leaf (level_of sh c))
   pub lowest : Admits C sh m.lowest (leaf C.lowest)
   pub permit : (p : ℕ) → HasPermit sh p → Permits C sh (slice_index_or m.permit p no_permit) (permit_at sh p)
-  pub wipers : (v c : ℕ) → bit c (slice_index m.wipers v) ≡ wipes c (policy_of sh v)
+  pub wipers : (v c : ℕ) → bit c (slice_index_or m.variable v no_variable_flow).wipers ≡ wipes c (policy_of sh v)

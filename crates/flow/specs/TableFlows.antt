@@ -12,9 +12,10 @@ use Rattle.sheet.specs.Sheet.{Sheet}
 use Rattle.sheet.specs.Table.{Represents, blank_variable, blank_grant}
 use Rattle.sheet.specs.Valid.{Valid}
 use Rattle.flow.specs.declared.masks.Inflow.{Inflow}
+use Rattle.flow.specs.declared.masks.VariableFlow.{VariableFlow}
 use Rattle.flow.specs.declared.masks.PermitFlow.{PermitFlow}
 use Rattle.flow.specs.declared.masks.FlowMasks.{FlowMasks}
-use Rattle.flow.specs.Flows.{no_inflow, no_permit, MasksOf}
+use Rattle.flow.specs.Flows.{no_inflow, no_variable_flow, no_permit, MasksOf}
 
 -- a mask with a bit for each of the first n numbers, of which this holds
 pub record EachBit (n : ℕ) (P : ℕ → Bool → Type 0) (mask : ℕ) : Type 0 where
@@ -59,6 +60,11 @@ pub record InflowOf (C : Lattice) (t : SheetTable) (row : Row) (f : Inflow) : Ty
   pub variables : VariablesInto C t row f.variables
   pub conditions : ConditionsBelow C t (get_or row.levels 0 no_leaf).level f.conditions
 
+-- what may reach a variable of this row, and what wipes it
+pub record VariableFlowOf (C : Lattice) (t : SheetTable) (row : Row) (f : VariableFlow) : Type 0 where
+  pub inflow : InflowOf C t row f.inflow
+  pub wipers : f.wipers ≡ row.wipers
+
 -- a permit's conditions, of which there are sixteen, what it may release, and into what
 pub record PermitFlowOf (C : Lattice) (t : SheetTable) (grant : Grant) (f : PermitFlow) : Type 0 where
   pub conditions : f.conditions ≡ grant.conditions % 65536
@@ -66,8 +72,8 @@ pub record PermitFlowOf (C : Lattice) (t : SheetTable) (grant : Grant) (f : Perm
   pub targets : VariablesFrom C t grant.to f.targets
 
 -- for each variable, each condition, each permit; nothing beyond them
-abbrev pub IntoVariables : Lattice → SheetTable → List Inflow → Type 0
-IntoVariables C t = EachItem (variables_in t) no_inflow (λ v. InflowOf C t (row_of t v))
+abbrev pub IntoVariables : Lattice → SheetTable → List VariableFlow → Type 0
+IntoVariables C t = EachItem (variables_in t) no_variable_flow (λ v. VariableFlowOf C t (row_of t v))
 
 abbrev pub IntoConditions : Lattice → SheetTable → List Inflow → Type 0
 IntoConditions C t = EachItem (conditions_in t) no_inflow (λ c. InflowOf C t (leaf_row (slice_index t.levels c)))
@@ -75,16 +81,12 @@ IntoConditions C t = EachItem (conditions_in t) no_inflow (λ c. InflowOf C t (l
 abbrev pub ByPermits : Lattice → SheetTable → List PermitFlow → Type 0
 ByPermits C t = EachItem (permits_in t) no_permit (λ p. PermitFlowOf C t (slice_index_or t.grants p blank_grant))
 
-abbrev pub WipersOf : SheetTable → List ℕ → Type 0
-WipersOf t = EachItem (variables_in t) 0 (λ v w. w ≡ (row_of t v).wipers)
-
 pub record TableFlows (C : Lattice) (t : SheetTable) (m : FlowMasks) : Type 0 where
   pub counts : (m.conditions ≡ conditions_in t) × (m.variables ≡ variables_in t) × (m.permits ≡ permits_in t)
   pub variable : IntoVariables C t m.variable
   pub condition : IntoConditions C t m.condition
   pub lowest : InflowOf C t (leaf_row C.lowest) m.lowest
   pub permit : ByPermits C t m.permit
-  pub wipers : WipersOf t m.wipers
 
 -- the masks of a table, and of each valid sheet that it represents
 pub record FlowsOf (C : Lattice) (t : SheetTable) (m : FlowMasks) : Type 0 where

@@ -5,5 +5,5 @@ mod inflow;
 mod masks;
 mod tables;
 
-pub use masks::{FlowMasks, Inflow, PermitFlow};
+pub use masks::{FlowMasks, Inflow, PermitFlow, VariableFlow};
 pub use tables::flow_masks;

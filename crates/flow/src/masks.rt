@@ -8,6 +8,13 @@ pub struct Inflow {
     pub conditions: u16,
 }
 
+/// A variable: what may reach it, and the conditions that wipe it.
+#[derive(Clone, Copy)]
+pub struct VariableFlow {
+    pub inflow: Inflow,
+    pub wipers: u16,
+}
+
 /// A permit: its conditions, the variables that flow to its from-tree, and the variables to which its to-tree flows.
 #[derive(Clone, Copy)]
 pub struct PermitFlow {
@@ -17,17 +24,17 @@ pub struct PermitFlow {
 }
 
 /// How many conditions, variables and permits a sheet declares, and what may flow where: into each variable, into a leaf of each
-/// condition's level and of the lowest level, and by each permit; and what wipes each variable.
+/// condition's level and of the lowest level, and by each permit.
+// Counts beside arrays: no heap, so each array has fixed room.
 #[derive(Clone, Copy)]
 pub struct FlowMasks {
     pub conditions: usize,
     pub variables: usize,
     pub permits: usize,
-    pub variable: [Inflow; 64],
+    pub variable: [VariableFlow; 64],
     pub condition: [Inflow; 16],
     pub lowest: Inflow,
     pub permit: [PermitFlow; 8],
-    pub wipers: [u16; 64],
     ghost counts: { (conditions ≤ 16) × (variables ≤ 64) × (permits ≤ 8) },
-    ghost sizes: { (length variable ≡ 64) × (length condition ≡ 16) × (length permit ≡ 8) × (length wipers ≡ 64) },
+    ghost sizes: { (length variable ≡ 64) × (length condition ≡ 16) × (length permit ≡ 8) },
 }

@@ -1,8 +1,8 @@
 // What may flow where under a whole sheet.
-ghost use Rattle.flow.specs.TableFlows.{IntoVariables, IntoConditions, ByPermits, WipersOf, FlowsOf};
+ghost use Rattle.flow.specs.TableFlows.{IntoVariables, IntoConditions, ByPermits, FlowsOf};
 
 use crate::inflow::{inflow, leaf_inflow, permit_flow};
-use crate::masks::{FlowMasks, Inflow, PermitFlow};
+use crate::masks::{FlowMasks, Inflow, PermitFlow, VariableFlow};
 use lattice::Lattice;
 use sheet::SheetTable;
 
@@ -11,21 +11,30 @@ const NOTHING: Inflow = Inflow {
     conditions: 0,
 };
 
+const NO_VARIABLE: VariableFlow = VariableFlow {
+    inflow: NOTHING,
+    wipers: 0,
+};
+
 const NO_PERMIT: PermitFlow = PermitFlow {
     conditions: 0,
     sources: 0,
     targets: 0,
 };
 
-// What may reach each variable.
-fn into_variables<L: Lattice>(lattice: &L, table: &SheetTable) -> [Inflow; 64]
+// What may reach each variable, and what wipes it.
+fn into_variables<L: Lattice>(lattice: &L, table: &SheetTable) -> [VariableFlow; 64]
     ensures { IntoVariables (L.Lattice.lattice lattice.now) table.now result }
 {
-    let mut inflows = [NOTHING; 64];
+    let mut flows = [NO_VARIABLE; 64];
     for variable in 0..table.variables.min(table.rows.len()) {
-        inflows[variable] = inflow(lattice, table, &table.rows[variable].policy);
+        let row = &table.rows[variable].policy;
+        flows[variable] = VariableFlow {
+            inflow: inflow(lattice, table, row),
+            wipers: row.wipers,
+        };
     }
-    inflows
+    flows
 }
 
 // What may reach a leaf of each condition's level.
@@ -50,17 +59,6 @@ fn by_permits<L: Lattice>(lattice: &L, table: &SheetTable) -> [PermitFlow; 8]
     flows
 }
 
-// What wipes each variable.
-fn wipers(table: &SheetTable) -> [u16; 64]
-    ensures { WipersOf table.now result }
-{
-    let mut masks = [0; 64];
-    for variable in 0..table.variables.min(table.rows.len()) {
-        masks[variable] = table.rows[variable].policy.wipers;
-    }
-    masks
-}
-
 /// The masks of a table: under each valid sheet that it represents, what may flow where.
 pub fn flow_masks<L: Lattice>(lattice: &L, table: &SheetTable) -> FlowMasks
     ensures { FlowsOf (L.Lattice.lattice lattice.now) table.now result }
@@ -73,6 +71,5 @@ pub fn flow_masks<L: Lattice>(lattice: &L, table: &SheetTable) -> FlowMasks
         condition: into_conditions(lattice, table),
         lowest: leaf_inflow(lattice, table, lattice.lowest()),
         permit: by_permits(lattice, table),
-        wipers: wipers(table),
     }
 }

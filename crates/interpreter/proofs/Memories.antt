@@ -11,6 +11,7 @@ use Rattle.sheet.specs.Sheet.{Sheet, policy_of}
 use Rattle.machine.specs.Memory.{Memory, update, write, raised}
 use Rattle.machine.proofs.Memories.{memory_ext}
 use Rattle.flow.specs.declared.masks.FlowMasks.{FlowMasks}
+use Rattle.flow.specs.Flows.{no_variable_flow}
 use Rattle.interpreter.specs.Meaning.{Enforces, memory_of}
 
 set_is : (xs : List ℤ) (a v : ℕ) (x : ℤ) → a < length xs → get_or (set xs a x) v (pos 0) ≡ cond (eqb v a) x (get_or xs v (pos 0))
@@ -25,11 +26,11 @@ module _ (m : FlowMasks) (sh : Sheet) (E : Enforces m sh) where
     abbrev put : Memory
     put = record { values = update a x (memory_of xs u).values; up = members u }
 
-    mask : not (wiped_by (members u) (policy_of sh a)) ≡ eqb (bit_and (get_or m.wipers a 0) u) 0
-    mask = wiped_mask (members u) (policy_of sh a) (get_or m.wipers a 0) u (E.wipers a) (λ c. refl)
+    mask : not (wiped_by (members u) (policy_of sh a)) ≡ eqb (bit_and (get_or m.variable a no_variable_flow).wipers u) 0
+    mask = wiped_mask (members u) (policy_of sh a) (get_or m.variable a no_variable_flow).wipers u (E.wipers a) (λ c. refl)
 
     -- no wiper is up
-    pub write_lands : a < length xs → bit_and (get_or m.wipers a 0) u ≡ 0 → memory_of (set xs a x) u ≡ write sh a x (memory_of xs u)
+    pub write_lands : a < length xs → bit_and (get_or m.variable a no_variable_flow).wipers u ≡ 0 → memory_of (set xs a x) u ≡ write sh a x (memory_of xs u)
     write_lands h z =
         memory_ext (memory_of (set xs a x) u) put (λ v. set_is xs a v x h) (λ c. refl)
         ∙ ap (λ b. cond b put (memory_of xs u)) (sym (mask ∙ eq-eqb _ _ z)) ∙ turned (wiped_by (members u) (policy_of sh a))
@@ -39,25 +40,25 @@ module _ (m : FlowMasks) (sh : Sheet) (E : Enforces m sh) where
         turned false = refl
 
     -- a wiper is up
-    pub write_drops : (bit_and (get_or m.wipers a 0) u ≡ 0 → ⊥) → memory_of xs u ≡ write sh a x (memory_of xs u)
+    pub write_drops : (bit_and (get_or m.variable a no_variable_flow).wipers u ≡ 0 → ⊥) → memory_of xs u ≡ write sh a x (memory_of xs u)
     write_drops n = go (wiped_by (members u) (policy_of sh a)) (mask ∙ ne_eqb _ _ n)
       where
         go : (b : Bool) → not b ≡ false → memory_of xs u ≡ cond b (memory_of xs u) put
         go true e = refl
         go false e = absurd (both_ways true e refl)
 
-  pub raises : (c u : ℕ) (xs ys : List ℤ) → c < 16 → ((v : ℕ) → get_or ys v (pos 0) ≡ cond (ltb v 64 && bit c (get_or m.wipers v 0)) (pos 0) (get_or xs v (pos 0)))
+  pub raises : (c u : ℕ) (xs ys : List ℤ) → c < 16 → ((v : ℕ) → get_or ys v (pos 0) ≡ cond (ltb v 64 && bit c (get_or m.variable v no_variable_flow).wipers) (pos 0) (get_or xs v (pos 0)))
       → memory_of ys (including c u) ≡ raised sh c (memory_of xs u)
   raises c u xs ys h e =
       memory_ext (memory_of ys (including c u)) (raised sh c (memory_of xs u)) (λ v. e v ∙ ap (λ b. cond b (pos 0) (get_or xs v (pos 0))) (inside v ∙ E.wipers v c)) (λ k. bit_raised c u k h)
     where
-      inside : (v : ℕ) → (ltb v 64 && bit c (get_or m.wipers v 0)) ≡ bit c (get_or m.wipers v 0)
+      inside : (v : ℕ) → (ltb v 64 && bit c (get_or m.variable v no_variable_flow).wipers) ≡ bit c (get_or m.variable v no_variable_flow).wipers
       inside v =
           elim (cases_lt v 64) [
-            | inl l ↦ ap (λ b. b && bit c (get_or m.wipers v 0)) (lt-ltb v 64 l)
+            | inl l ↦ ap (λ b. b && bit c (get_or m.variable v no_variable_flow).wipers) (lt-ltb v 64 l)
             | inr l ↦
-                let long : length m.wipers ≤ v = omega (arith, m.sizes.3) in
-                let z : bit c (get_or m.wipers v 0) ≡ false = ap (bit c) (get_or-eq_default m.wipers 0 long) ∙ bit_zero c in
+                let long : length m.variable ≤ v = omega (arith, m.sizes.0) in
+                let z : bit c (get_or m.variable v no_variable_flow).wipers ≡ false = ap (λ x. bit c x.wipers) (get_or-eq_default m.variable no_variable_flow long) ∙ bit_zero c in
                 and_right (ltb v 64) _ z ∙ sym z
           ]
 

@@ -1,5 +1,5 @@
 -- What a pass owes to the machine: which sheet the masks enforce, which memory a store stands for, and the answer.
-use Rattle.std.specs.Prelude.{◌≡◌, ℕ, ◌-◌, List, length, get_or, ℤ, pos, slice_index, slice_index_or}
+use Rattle.std.specs.Prelude.{◌≡◌, ℕ, ◌-◌, List, length, get_or, ℤ, pos, slice_index_or}
 use Rattle.policy.specs.Policy.{wipes}
 use Rattle.policy.specs.Masks.{bit, members}
 use Rattle.sheet.specs.Sheet.{Sheet, policy_of, permit_at}
@@ -7,13 +7,13 @@ use Rattle.machine.specs.SoundSheet.{HasPermit}
 use Rattle.machine.specs.Memory.{Memory}
 use Rattle.machine.specs.Run.{Outcome, done, spent}
 use Rattle.flow.specs.declared.masks.FlowMasks.{FlowMasks}
-use Rattle.flow.specs.Flows.{no_permit}
+use Rattle.flow.specs.Flows.{no_variable_flow, no_permit}
 use Rattle.interpreter.specs.declared.interpret.Ending.{Ending}
 use Rattle.interpreter.specs.declared.interpret.Ending.TheVariants.{Done, Spent}
 
 -- the masks have the sheet's wipers and its permits' conditions, which is all that a run asks of them
 pub record Enforces (m : FlowMasks) (sh : Sheet) : Type 0 where
-  pub wipers : (v c : ℕ) → bit c (slice_index m.wipers v) ≡ wipes c (policy_of sh v)
+  pub wipers : (v c : ℕ) → bit c (slice_index_or m.variable v no_variable_flow).wipers ≡ wipes c (policy_of sh v)
   pub permits : m.permits ≡ length sh.permits
   pub conditions : (p : ℕ) → HasPermit sh p → (get_or m.permit p no_permit).conditions ≡ (permit_at sh p).conditions
 

@@ -1,8 +1,9 @@
 // How the memory changes: by a write, and by a condition that comes up.
-ghost use Rattle.std.specs.Prelude.{◌≡◌, ℕ, ◌<◌, ◌≤◌, ◌&&◌, pos, if◌then◌else◌, nat_lt, slice_index, slice_index_or};
+ghost use Rattle.std.specs.Prelude.{◌≡◌, ℕ, ◌<◌, ◌≤◌, ◌&&◌, pos, if◌then◌else◌, nat_lt, slice_index_or};
 ghost use Rattle.policy.specs.Masks.{bit};
 ghost use Rattle.sheet.specs.Sheet.{Sheet};
 ghost use Rattle.machine.specs.Memory.{write, raised};
+ghost use Rattle.flow.specs.Flows.{no_variable_flow};
 ghost use Rattle.interpreter.specs.Meaning.{Enforces, memory_of};
 
 use flow::FlowMasks;
@@ -14,7 +15,7 @@ pub fn write<S: Store>(masks: &FlowMasks, store: &mut S, up: u16, variable: u8, 
         memory_of (S.Store.values store.new) up ≡ write sh variable value (memory_of (S.Store.values store.old) up) }
     ensures beyond { 64 ≤ variable → store.new ≡ store.old }
 {
-    if variable < 64 && masks.wipers[variable as usize] & up == 0 {
+    if variable < 64 && masks.variable[variable as usize].wipers & up == 0 {
         store.put(variable as usize, value);
     }
 }
@@ -35,10 +36,10 @@ pub fn raise<S: Store>(masks: &FlowMasks, store: &mut S, up: &mut u16, condition
 fn wipe<S: Store>(masks: &FlowMasks, store: &mut S, condition: u8)
     requires { condition < 16 }
     ensures { (v : ℕ) → slice_index_or (S.Store.values store.new) v (pos 0)
-        ≡ (if nat_lt v 64 && bit condition (slice_index masks.now.wipers v) then pos 0 else slice_index_or (S.Store.values store.old) v (pos 0)) }
+        ≡ (if nat_lt v 64 && bit condition (slice_index_or masks.now.variable v no_variable_flow).wipers then pos 0 else slice_index_or (S.Store.values store.old) v (pos 0)) }
 {
     for variable in 0..64 {
-        if (masks.wipers[variable] >> condition) & 1 == 1 {
+        if (masks.variable[variable].wipers >> condition) & 1 == 1 {
             store.put(variable, 0);
         }
     }

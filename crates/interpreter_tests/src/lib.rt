@@ -3,7 +3,7 @@
 
 #[cfg(test)]
 mod tests {
-    use flow::{FlowMasks, Inflow, PermitFlow};
+    use flow::{FlowMasks, Inflow, PermitFlow, VariableFlow};
     use interpreter::{Ending, pass, raise, write};
     use program::{Instruction, Program};
     use store::{DenseStore, SparseStore, Store};
@@ -52,17 +52,16 @@ mod tests {
             sources: 0,
             targets: 0,
         };
-        let mut wipers = [0; 64];
-        wipers[5] = 1;
+        let mut variable = [VariableFlow { inflow, wipers: 0 }; 64];
+        variable[5].wipers = 1;
         FlowMasks {
             conditions: 16,
             variables: 64,
             permits: 8,
-            variable: [inflow; 64],
+            variable,
             condition: [inflow; 16],
             lowest: inflow,
             permit: [permit; 8],
-            wipers,
         }
     }
 

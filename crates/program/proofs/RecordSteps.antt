@@ -18,7 +18,7 @@ use Rattle.machine.specs.Typing.{Context, under_variable, under_conditions}
 use Rattle.flow.specs.declared.masks.Inflow.{Inflow}
 use Rattle.flow.specs.declared.masks.PermitFlow.{PermitFlow}
 use Rattle.flow.specs.declared.masks.FlowMasks.{FlowMasks}
-use Rattle.flow.specs.Flows.{no_inflow, no_permit, Admits}
+use Rattle.flow.specs.Flows.{no_inflow, no_variable_flow, no_permit, Admits}
 use Rattle.program.specs.declared.context.Context.{Context as Masks}
 use Rattle.program.specs.declared.innermost.Innermost.{Innermost}
 use Rattle.program.specs.declared.innermost.Innermost.TheVariants.{Outermost, First, Second, Loop}
@@ -166,7 +166,7 @@ module _ (m : FlowMasks) (pc : Masks) (opened : ℕ) (inner : Innermost) (place 
   place_of : (v : ℕ) → ltb v m.variables ≡ true → v < 64
   place_of v h = omega (arith, ltb-true v m.variables h, m.counts)
 
-  pub setting : Set ≡ kind_at r.letter inner → Reaching Set sets (set_fields r place m.variables) r.a 16 pc (λ t. get_or m.variable t no_inflow)
+  pub setting : Set ≡ kind_at r.letter inner → Reaching Set sets (set_fields r place m.variables) r.a 16 pc (λ t. (get_or m.variable t no_variable_flow).inflow)
   setting h =
       let q = kind_found Set r.letter inner h in
       record {
@@ -203,7 +203,7 @@ module _ (m : FlowMasks) (pc : Masks) (opened : ℕ) (inner : Innermost) (place 
       }
 
   pub combining : (k : OneSign ≡ kind_at r.letter inner)
-      → Reaching OneSign (signs (kind_found OneSign r.letter inner k).0) (three_fields r place m.variables m.variables) r.a 16 (with_variable r.b (with_variable r.c pc)) (λ t. get_or m.variable t no_inflow)
+      → Reaching OneSign (signs (kind_found OneSign r.letter inner k).0) (three_fields r place m.variables m.variables) r.a 16 (with_variable r.b (with_variable r.c pc)) (λ t. (get_or m.variable t no_variable_flow).inflow)
   combining h =
       let s = (kind_found OneSign r.letter inner h).0 in
       let q = (kind_found OneSign r.letter inner h).1 in
@@ -340,7 +340,7 @@ module _ (m : FlowMasks) (pc : Masks) (opened : ℕ) (inner : Innermost) (place 
   module _ (t : ℕ) (j : Ok t ≡ judged threes r.a) where
     abbrev reached_by : Reading Command → Reading Command
     reached_by a =
-        first (each_within 16 place (context_of (with_conditions permit.conditions pc)) (masked (get_or m.variable t no_inflow).variables (get_or m.variable t no_inflow).conditions))
+        first (each_within 16 place (context_of (with_conditions permit.conditions pc)) (masked (get_or m.variable t no_variable_flow).inflow.variables (get_or m.variable t no_variable_flow).inflow.conditions))
         (first (rule 16 place (512 + r.c) (bit r.a permit.targets) ∷ rule 18 place 0 (bit r.b permit.sources) ∷ []) a)
 
     release_reaches : Asks m pc opened inner place r releases (λ C sh a. reached_by a)
@@ -361,8 +361,8 @@ module _ (m : FlowMasks) (pc : Masks) (opened : ℕ) (inner : Innermost) (place 
         let from : flows C (policy_of sh r.b) (permit_at sh r.c).from ≡ bit r.b permit.sources = flows_mask W sh U (permit_at sh r.c).from permit.sources r.b known.0 P.sources has_b in
         release_asks C sh blocks commands A rs ∙ first_holds threes _ p.1
         ∙ (λ i. first (each_within 16 place (c i) (widest C sh (policy_of sh r.a))) (first (rule 16 place (512 + r.c) (to i) ∷ rule 18 place 0 (from i) ∷ []) a))
-        ∙ reaches W sh U 16 place (with_conditions mask pc) (get_or m.variable r.a no_inflow) (policy_of sh r.a) _ d (U.sound.variables r.a hasA) (A.masks.variable r.a hasA)
-        ∙ (λ i. first (each_within 16 place (context_of (with_conditions (sym P.conditions i) pc)) (masked (get_or m.variable (sym p.0 i) no_inflow).variables (get_or m.variable (sym p.0 i) no_inflow).conditions))
+        ∙ reaches W sh U 16 place (with_conditions mask pc) (get_or m.variable r.a no_variable_flow).inflow (policy_of sh r.a) _ d (U.sound.variables r.a hasA) (A.masks.variable r.a hasA)
+        ∙ (λ i. first (each_within 16 place (context_of (with_conditions (sym P.conditions i) pc)) (masked (get_or m.variable (sym p.0 i) no_variable_flow).inflow.variables (get_or m.variable (sym p.0 i) no_variable_flow).inflow.conditions))
         (first (rule 16 place (512 + r.c) (bit r.a permit.targets) ∷ rule 18 place 0 (bit r.b permit.sources) ∷ []) a))
 
     pub release_refused : (e : Refusal) → ((a : Reading Command) → reached_by a ≡ refused e) → Stuck m pc opened inner place r e

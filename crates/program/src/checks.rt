@@ -67,19 +67,19 @@ pub(crate) fn check_record(
     match kind {
         RecordKind::Set => {
             let target = check_set(first, place, masks.variables)?;
-            let inflow = masks.variable[target as usize];
+            let inflow = masks.variable[target as usize].inflow;
             check_reach(Rule::Reaching, place, context, inflow)?;
         }
         RecordKind::Sign => {
             let target = check_three(first, place, masks.variables, masks.variables)?;
             let reading = context.with_variable(first.c).with_variable(first.b);
-            let inflow = masks.variable[target as usize];
+            let inflow = masks.variable[target as usize].inflow;
             check_reach(Rule::Reaching, place, reading, inflow)?;
         }
         RecordKind::Release => {
             let target = check_three(first, place, masks.variables, masks.permits)?;
             let permit = masks.permit[first.c as usize];
-            let inflow = masks.variable[target as usize];
+            let inflow = masks.variable[target as usize].inflow;
             check_release(first, place, context, permit, inflow)?;
         }
         RecordKind::Raise => {

@@ -19,6 +19,7 @@ use Rattle.machine.proofs.Wiping.{Clean, CleanState, clean_final}
 use Rattle.program.specs.declared.kept.Program.{Program}
 use Rattle.program.specs.Kept.{Keeps}
 use Rattle.interpreter.specs.declared.interpret.Ending.{Ending}
+use Rattle.flow.specs.Flows.{no_variable_flow}
 use Rattle.interpreter.specs.Meaning.{Enforces, memory_of, Answers}
 use Rattle.interpreter.proofs.Masks as masks
 use Rattle.siteunit.specs.declared.kept.KeptSheet.{KeptSheet}
@@ -124,10 +125,10 @@ module _ (C : Lattice) (sh : Sheet) (k : KeptSheet) (K : KeepsSheet C sh k) wher
   pub is_askable : (c l : ℕ) (b : Bool) → c < k.masks.conditions → C.below (get_or k.levels c 0) l ≡ b → C.below (level_of sh c) l ≡ b
   is_askable c l b h e = ap (λ x. C.below x l) (sym (K.levels c (has_condition c h))) ∙ e
 
-  pub is_wiped : (v u : ℕ) → (bit_and (get_or k.masks.wipers v 0) u ≡ 0 → ⊥) → not (wiped_by (members u) (policy_of sh v)) ≡ false
+  pub is_wiped : (v u : ℕ) → (bit_and (get_or k.masks.variable v no_variable_flow).wipers u ≡ 0 → ⊥) → not (wiped_by (members u) (policy_of sh v)) ≡ false
   is_wiped v u n = wiped_mask (members u) (policy_of sh v) _ u (K.masks.wipers v) (λ c. refl) ∙ ne_eqb _ _ n
 
-  pub not_wiped : (v u : ℕ) → bit_and (get_or k.masks.wipers v 0) u ≡ 0 → not (wiped_by (members u) (policy_of sh v)) ≡ true
+  pub not_wiped : (v u : ℕ) → bit_and (get_or k.masks.variable v no_variable_flow).wipers u ≡ 0 → not (wiped_by (members u) (policy_of sh v)) ≡ true
   not_wiped v u e = wiped_mask (members u) (policy_of sh v) _ u (K.masks.wipers v) (λ c. refl) ∙ eq-eqb _ _ e
 
   pub enforces : Enforces k.masks sh

@@ -113,7 +113,7 @@ impl<L: Lattice, S: Store> SiteBox<L, S> {
         if !sheet.access[place].fed {
             return Err(Rule::MayBeFed.into());
         }
-        let wipers = sheet.masks.wipers[place];
+        let wipers = sheet.masks.variable[place].wipers;
         if wipers & self.up != 0 {
             return Err(Rule::NotWiped.into());
         }

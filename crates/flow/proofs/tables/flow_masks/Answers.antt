@@ -14,6 +14,5 @@ returns g c =
       condition = c.into_conditions.ensures;
       lowest = subst (λ level. InflowOf C t (leaf_row level) c.leaf_inflow.result) c.lowest.ensures c.leaf_inflow.ensures;
       permit = c.by_permits.ensures;
-      wipers = c.wipers.ensures;
     } in
     record { rows = rows; sheets = λ sh R V. masks_of C t sh R V _ (g.met.L.Lattice.lawful l) rows }

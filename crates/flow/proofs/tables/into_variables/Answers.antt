@@ -1,7 +1,8 @@
-use Rattle.std.proofs.Common.{◌≡◌, ◌<◌, min, length, arith}
+use Rattle.std.proofs.Common.{◌≡◌, ◌<◌, min, length, ap, arith}
+use Rattle.std.proofs.lemmas.List.{get_or_default}
 use Rattle.sheet.specs.Table.{blank_variable}
-use Rattle.flow.specs.Flows.{no_inflow}
-use Rattle.flow.specs.TableFlows.{InflowOf, row_of}
+use Rattle.flow.specs.Flows.{no_variable_flow}
+use Rattle.flow.specs.TableFlows.{InflowOf, VariableFlowOf, row_of}
 use Rattle.flow.proofs.Turns.{items_none, items_more, items_all, item_read}
 use Rattle.flow.proofs.tables.into_variables.Goals as goal
 
@@ -14,8 +15,10 @@ loop-variable-preserved g c =
     let t = c.args.table.now in
     let v = c.loop-variable.variable in
     let within : v < length t.rows = omega arith in
-    items_more (λ k. InflowOf C t (row_of t k)) no_inflow 64 v c.loop-variable.inflows c.inflow.result (omega arith) c.loop-variable.invariant
-    (item_read t.rows v _ blank_variable within (λ r. InflowOf C t r.policy c.inflow.result) c.inflow.ensures)
+    items_more (λ k. VariableFlowOf C t (row_of t k)) no_variable_flow 64 v c.loop-variable.flows _ (omega arith) c.loop-variable.invariant (record {
+      inflow = item_read t.rows v _ blank_variable within (λ r. InflowOf C t r.policy c.inflow.result) c.inflow.ensures;
+      wipers = ap (λ r. r.policy.wipers) (get_or_default t.rows v _ blank_variable within);
+    })
 
 pub returns : goal.returns
 returns g c =

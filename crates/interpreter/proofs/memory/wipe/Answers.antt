@@ -2,6 +2,7 @@ use Rattle.std.proofs.Common.{ℕ, ◌<◌, Bool, length, get_or, sym, ap, ◌�
 use Rattle.std.proofs.lemmas.Bool.{eq-eqb, ne_eqb}
 use Rattle.policy.specs.Masks.{bit}
 use Rattle.policy.proofs.Masks.{bit_test}
+use Rattle.flow.specs.Flows.{no_variable_flow}
 use Rattle.interpreter.proofs.Memories.{wipe_more, wipe_skip}
 use Rattle.interpreter.proofs.memory.wipe.Goals as goal
 use Rattle.interpreter.proofs.memory.wipe.Goals.{then-masks-variable-eq1, else-masks-variable-eq1}
@@ -12,7 +13,7 @@ loop-variable-preserved g c =
     let xs = f c.args.store.now in
     let ys = f c.loop-variable.store in
     let i = c.loop-variable.variable in
-    let t : ℕ → Bool = λ k. bit c.args.condition (get_or c.args.masks.now.wipers k 0) in
+    let t : ℕ → Bool = λ k. bit c.args.condition (get_or c.args.masks.now.variable k no_variable_flow).wipers in
     let long = g.met.S.Store.long c.loop-variable.store in
     let d : i < length ys = omega (arith, c.loop-variable-test.true) in
     elim c.if-masks-variable-eq1.branch [

@@ -1,9 +1,10 @@
 use Rattle.std.proofs.Common.{◌≡◌, ℕ, cond, ◌&&◌, ltb, get_or, pos}
 use Rattle.policy.specs.Masks.{bit}
+use Rattle.flow.specs.Flows.{no_variable_flow}
 use Rattle.interpreter.proofs.memory.wipe.Given as goal
 
 -- the variables so far are wiped
 abbrev pub invariant-loop-variable : goal.invariant-loop-variable
 invariant-loop-variable g l =
     (k : ℕ) → get_or (g.S.Store.values l.store) k (pos 0)
-    ≡ cond (ltb k l.variable && bit l.condition (get_or l.masks.wipers k 0)) (pos 0) (get_or (g.S.Store.values l.initial.store) k (pos 0))
+    ≡ cond (ltb k l.variable && bit l.condition (get_or l.masks.variable k no_variable_flow).wipers) (pos 0) (get_or (g.S.Store.values l.initial.store) k (pos 0))
