@@ -25,7 +25,7 @@ use Rattle.interpreter.proofs.Masks as masks
 use Rattle.siteunit.specs.declared.kept.KeptSheet.{KeptSheet}
 use Rattle.siteunit.specs.declared.site.SiteBox.{SiteBox}
 use Rattle.siteunit.specs.Standing.{no_access, KeepsSheet, KeptAs, LoadedAs, Ready, Stands}
-use Rattle.siteunit.specs.Obeying.{system_of, answer_of, ending, StandsFor, WipedIn, Obeys}
+use Rattle.siteunit.specs.Obeying.{system_of, answer_of, nothing, ending, StandsFor, WipedIn, Obeys}
 
 pub yes : (q : Bool) (s t : Step) → q ≡ true → cond q s t ≡ s
 yes q s t e = ap (λ b. cond b s t) e
@@ -148,3 +148,21 @@ module _ {X Y : Type 0} (lattice : X → Lattice) (values : Y → List ℤ) wher
 
 pub accepts : {T : Type 0} {x : T} {A : Type 0} (e : Refusal) → Ok x ≡ Err e → A
 accepts {T} {x} {A} e q = let z : ◌≡◌ {A = ℕ} 0 1 = cc in absurd (omega arith)
+
+-- what a call owes on a box with a sheet
+module _ {X Y : Type 0} (lattice : X → Lattice) (values : Y → List ℤ) (image : List ℤ → List ℕ) (b : SiteBox X Y) (k : KeptSheet) (is : b.sheet ≡ Some k) where
+  abbrev here : Sheet → program.Option Command → State
+  here sh p = ready sh p (memory_of (values b.store) b.up)
+
+  -- it changes nothing
+  pub tells : {T : Type 0} (told : T → Answer) (call : Call) (r : Result T Refusal)
+      → ((sh : Sheet) (p : program.Option Command) → KeepsSheet (lattice b.lattice) sh k → step (system_of (lattice b.lattice) image) (here sh p) call ≡ answered (here sh p) (answer_of told r))
+      → Obeys lattice values image told b b call r
+  tells told call r does = obeys lattice values image told b b call r refl (λ e q. refl) (stays (lattice b.lattice) image b.sheet b.program k (values b.store) b.up is call _ _ refl does)
+
+  -- it changes the memory
+  pub changes : (store : Y) (up : ℕ) (call : Call) (next : Sheet → Memory)
+      → ((sh : Sheet) (p : program.Option Command) → KeepsSheet (lattice b.lattice) sh k → step (system_of (lattice b.lattice) image) (here sh p) call ≡ obeyed (ready sh p (next sh)))
+      → ((sh : Sheet) → KeepsSheet (lattice b.lattice) sh k → memory_of (values store) up ≡ next sh) → Obeys lattice values image nothing b (record b { store = store; up = up }) call (Ok (tt {0}))
+  changes store up call next does becomes =
+      obeys lattice values image nothing b (record b { store = store; up = up }) call (Ok (tt {0})) refl (λ e q. accepts e q) (moves (lattice b.lattice) image b.sheet b.program k (values b.store) b.up is call (values store) up next does becomes)
