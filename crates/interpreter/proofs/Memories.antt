@@ -1,8 +1,8 @@
 -- What the code does with masks and a store's values is what the machine does to its memory. Assumes nothing.
-use Rattle.std.proofs.Common.{◌≡◌, ℕ, ◌+◌, ◌<◌, ◌≤◌, Bool, true, false, cond, not, ◌&&◌, eqb, ltb, List, length, get_or, set, ℤ, pos, sym, refl, ap, ◌∙◌, inl, inr, arith, get_or-set_other, get_or-set_same}
+use Rattle.std.proofs.Common.{◌≡◌, ℕ, ◌<◌, ◌≤◌, Bool, true, false, cond, not, ◌&&◌, eqb, ltb, List, length, get_or, set, ℤ, pos, sym, refl, ap, ◌∙◌, inl, inr, arith, get_or-set_other, get_or-set_same}
 use lib.Bits.{bit_and}
 use lib.ListN.{get_or-eq_default}
-use Rattle.std.proofs.lemmas.Bool.{both_ways, cases_eq, cases_lt, eq-eqb, ne_eqb, lt-ltb, le-ltb, and_right}
+use Rattle.std.proofs.lemmas.Bool.{both_ways, cases_eq, cases_lt, eq-eqb, ne_eqb, lt-ltb, and_right}
 use Rattle.policy.specs.Policy.{wiped_by}
 use Rattle.policy.specs.Masks.{bit, members}
 use Rattle.policy.specs.Rows.{including}
@@ -61,31 +61,3 @@ module _ (m : FlowMasks) (sh : Sheet) (E : Enforces m sh) where
                 let z : bit c (get_or m.variable v no_variable_flow).wipers ≡ false = ap (λ x. bit c x.wipers) (get_or-eq_default m.variable no_variable_flow long) ∙ bit_zero c in
                 and_right (ltb v 64) _ z ∙ sym z
           ]
-
--- one turn of the loop that wipes: the variables before i are wiped, where the test t says so
-module _ (xs ys : List ℤ) (i : ℕ) (t : ℕ → Bool) (inv : (k : ℕ) → get_or ys k (pos 0) ≡ cond (ltb k i && t k) (pos 0) (get_or xs k (pos 0))) where
-  same_test : (k : ℕ) → (k ≡ i → ⊥) → ltb k (i + 1) ≡ ltb k i
-  same_test k n =
-      elim (cases_lt k i) [
-        | inl h ↦ lt-ltb k (i + 1) (omega arith) ∙ sym (lt-ltb k i h)
-        | inr h ↦ le-ltb k (i + 1) (omega arith) ∙ sym (le-ltb k i h)
-      ]
-
-  elsewhere : (k : ℕ) → (k ≡ i → ⊥) → get_or ys k (pos 0) ≡ cond (ltb k (i + 1) && t k) (pos 0) (get_or xs k (pos 0))
-  elsewhere k n = inv k ∙ ap (λ b. cond (b && t k) (pos 0) (get_or xs k (pos 0))) (sym (same_test k n))
-
-  pub wipe_more : (zs : List ℤ) → i < length ys → t i ≡ true → zs ≡ set ys i (pos 0) → (k : ℕ) → get_or zs k (pos 0) ≡ cond (ltb k (i + 1) && t k) (pos 0) (get_or xs k (pos 0))
-  wipe_more zs d e s k =
-      ap (λ l. get_or l k (pos 0)) s ∙ elim (cases_eq k i) [
-        | inl q ↦
-            ap (λ j. get_or (set ys i (pos 0)) j (pos 0)) q ∙ get_or-set_same ys i (pos 0) (pos 0) d
-            ∙ sym (ap (λ b. cond (b && t k) (pos 0) (get_or xs k (pos 0))) (lt-ltb k (i + 1) (omega arith)) ∙ ap (λ b. cond b (pos 0) (get_or xs k (pos 0))) (ap t q ∙ e))
-        | inr n ↦ get_or-set_other ys i k (pos 0) (pos 0) n ∙ elsewhere k n
-      ]
-
-  pub wipe_skip : (zs : List ℤ) → t i ≡ false → zs ≡ ys → (k : ℕ) → get_or zs k (pos 0) ≡ cond (ltb k (i + 1) && t k) (pos 0) (get_or xs k (pos 0))
-  wipe_skip zs e s k =
-      ap (λ l. get_or l k (pos 0)) s ∙ elim (cases_eq k i) [
-        | inl q ↦ inv k ∙ ap (λ b. cond b (pos 0) (get_or xs k (pos 0))) (and_right (ltb k i) (t k) (ap t q ∙ e) ∙ sym (and_right (ltb k (i + 1)) (t k) (ap t q ∙ e)))
-        | inr n ↦ elsewhere k n
-      ]

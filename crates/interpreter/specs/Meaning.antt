@@ -4,10 +4,11 @@ use Rattle.policy.specs.Policy.{wipes}
 use Rattle.policy.specs.Masks.{bit, members}
 use Rattle.sheet.specs.Sheet.{Sheet, policy_of, permit_at}
 use Rattle.machine.specs.SoundSheet.{HasPermit}
-use Rattle.machine.specs.Memory.{Memory}
+use Rattle.machine.specs.Memory as machine
 use Rattle.machine.specs.Run.{Outcome, done, spent}
 use Rattle.flow.specs.declared.masks.FlowMasks.{FlowMasks}
 use Rattle.flow.specs.Flows.{no_variable_flow, no_permit}
+use Rattle.interpreter.specs.declared.memory.Memory.{Memory}
 use Rattle.interpreter.specs.declared.interpret.Ending.{Ending}
 use Rattle.interpreter.specs.declared.interpret.Ending.TheVariants.{Done, Spent}
 
@@ -18,10 +19,14 @@ pub record Enforces (m : FlowMasks) (sh : Sheet) : Type 0 where
   pub conditions : (p : ℕ) → HasPermit sh p → (get_or m.permit p no_permit).conditions ≡ (permit_at sh p).conditions
 
 -- the memory that a store's values and a mask of the conditions up stand for
-abbrev pub memory_of : List ℤ → ℕ → Memory
+abbrev pub memory_of : List ℤ → ℕ → machine.Memory
 memory_of xs u = record { values = λ v. slice_index_or xs v (pos 0); up = members u }
 
+-- the memory that the code's own stands for, over the values that a store stands for
+abbrev pub meaning : {S : Type 0} → (S → List ℤ) → Memory S → machine.Memory
+meaning values m = memory_of (values m.store) m.up
+
 -- the answer of a pass with so many turns, and the memory after it, are the machine's
-abbrev pub Answers : Ending × ℕ → ℕ → Memory → Outcome → Type 0
-Answers r turns now (done left m l) = (r ≡ (Done, turns - left)) × (now ≡ m)
-Answers r turns now (spent m l) = (r ≡ (Spent, turns)) × (now ≡ m)
+abbrev pub Answers : Ending → ℕ → machine.Memory → Outcome → Type 0
+Answers r turns now (done left m l) = (r ≡ Done (turns - left)) × (now ≡ m)
+Answers r turns now (spent m l) = (r ≡ Spent turns) × (now ≡ m)

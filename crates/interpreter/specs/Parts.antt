@@ -1,23 +1,19 @@
 -- What the parts of the interpreter owe: one instruction without a block, and a whole run.
-use Rattle.std.specs.Prelude.{◌≡◌, ℕ, Bool, cond, ◌||◌, Some, None, Option, ◌==◌}
-use Rattle.machine.specs.Command.{Sign, plus, minus, times, less, equal, Command, skip, set, combine, release, raise}
+use Rattle.std.specs.Prelude.{◌≡◌, ℕ, Some, None, Option}
+use Rattle.machine.specs.Command.{Command, skip, set, combine, release, raise}
 use Rattle.machine.specs.Memory.{Memory}
 use Rattle.machine.specs.Run.{Outcome, done, spent}
+use Rattle.program.specs.Kept.{sign_of}
 use Rattle.program.specs.declared.kept.Instruction.{Instruction}
+use Rattle.program.specs.declared.kept.Instruction.TheVariants.{Set, Combine, Release, Raise}
 
-abbrev pub is_sign : ℕ → Bool
-is_sign l = l == 43 || (l == 45 || (l == 42 || (l == 60 || l == 61)))
-
-abbrev pub sign_of : ℕ → Sign
-sign_of l = cond (l == 43) plus (cond (l == 45) minus (cond (l == 42) times (cond (l == 60) less equal)))
-
--- the command of an instruction: S, the signs, D and U; any other letter says nothing
+-- the command of an instruction; one of a block says nothing by itself
 abbrev pub plain : Instruction → Command
-plain i =
-    cond (i.letter == 83) (set i.a i.n)
-    (cond (is_sign i.letter) (combine (sign_of i.letter) i.a i.b i.c)
-    (cond (i.letter == 68) (release i.a i.b i.c)
-    (cond (i.letter == 85) (raise i.a) skip)))
+plain (Set a x) = set a x
+plain (Combine s a b c) = combine (sign_of s) a b c
+plain (Release a b p) = release a b p
+plain (Raise c) = raise c
+plain _ = skip
 
 abbrev pub memory_after : Outcome → Memory
 memory_after (done left m l) = m

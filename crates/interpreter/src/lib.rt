@@ -4,5 +4,5 @@
 mod interpret;
 mod memory;
 
-pub use interpret::{Ending, pass};
-pub use memory::{raise, write};
+pub use interpret::Ending;
+pub use memory::Memory;

@@ -4,36 +4,43 @@
 #[cfg(test)]
 mod tests {
     use flow::{FlowMasks, Inflow, PermitFlow, VariableFlow};
-    use interpreter::{Ending, pass, raise, write};
-    use program::{Instruction, Program};
+    use interpreter::{Ending, Memory};
+    use program::{Instruction, Program, Sign};
     use store::{DenseStore, SparseStore, Store};
 
-    fn line(letter: u8, a: u8, b: u8, c: u8) -> Instruction {
-        Instruction {
-            letter,
-            a,
-            b,
-            c,
-            n: 0,
+    fn set(target: u8, value: i32) -> Instruction {
+        Instruction::Set { target, value }
+    }
+
+    fn combine(sign: Sign, target: u8, left: u8, right: u8) -> Instruction {
+        Instruction::Combine {
+            sign,
+            target,
+            left,
+            right,
         }
     }
 
-    fn set(a: u8, n: i32) -> Instruction {
-        Instruction {
-            letter: b'S',
-            a,
-            b: 0,
-            c: 0,
-            n,
+    fn release(target: u8, source: u8, permit: u8) -> Instruction {
+        Instruction::Release {
+            target,
+            source,
+            permit,
         }
+    }
+
+    fn repeat(variable: u8, way: u8) -> Instruction {
+        Instruction::Loop { variable, way }
+    }
+
+    fn again(variable: u8, way: u8) -> Instruction {
+        Instruction::Again { variable, way }
     }
 
     fn program(lines: &[Instruction]) -> Program {
-        let mut instructions = [line(0, 0, 0, 0); 256];
-        for at in 0..256 {
-            if at < lines.len() {
-                instructions[at] = lines[at];
-            }
+        let mut instructions = [Instruction::End; 256];
+        for (place, line) in instructions.iter_mut().zip(lines) {
+            *place = *line;
         }
         Program {
             count: lines.len().min(256),
@@ -70,106 +77,120 @@ mod tests {
         program(&[
             set(3, 1),
             set(0, 3),
-            line(b'W', 0, 0, 7),
+            repeat(0, 7),
             set(1, 2),
-            line(b'W', 0, 1, 3),
-            line(b'+', 2, 2, 3),
-            line(b'-', 1, 1, 3),
-            line(b'K', 0, 1, 3),
-            line(b'-', 0, 0, 3),
-            line(b'K', 0, 0, 7),
+            repeat(1, 3),
+            combine(Sign::Plus, 2, 2, 3),
+            combine(Sign::Minus, 1, 1, 3),
+            again(1, 3),
+            combine(Sign::Minus, 0, 0, 3),
+            again(0, 7),
         ])
     }
 
     #[test]
     fn loops_inside_loops_count_every_turn(rt: HostRuntime) {
-        let mut store = DenseStore::new();
-        let mut up = 0;
-        let (ending, used) = pass(&loop_in_loop(), &masks(), &mut store, &mut up, 9);
-        assert_eq!(rt; ending, Ending::Done);
-        assert_eq!(rt; used, 9);
-        assert_eq!(rt; store.get(2), 6);
+        let mut memory = Memory {
+            store: DenseStore::new(),
+            up: 0,
+        };
+        let ending = memory.pass(&masks(), &loop_in_loop(), 9);
+        assert_eq!(rt; ending, Ending::Done { used: 9 });
+        assert_eq!(rt; memory.store.get(2), 6);
     }
 
     #[test]
     fn spent_in_the_inner_loop(rt: HostRuntime) {
-        let mut store = SparseStore::new();
-        let mut up = 0;
-        let (ending, used) = pass(&loop_in_loop(), &masks(), &mut store, &mut up, 5);
-        assert_eq!(rt; ending, Ending::Spent);
-        assert_eq!(rt; used, 5);
-        assert_eq!(rt; store.get(0), 2);
-        assert_eq!(rt; store.get(1), 1);
-        assert_eq!(rt; store.get(2), 3);
+        let mut memory = Memory {
+            store: SparseStore::new(),
+            up: 0,
+        };
+        let ending = memory.pass(&masks(), &loop_in_loop(), 5);
+        assert_eq!(rt; ending, Ending::Spent { used: 5 });
+        assert_eq!(rt; memory.store.get(0), 2);
+        assert_eq!(rt; memory.store.get(1), 1);
+        assert_eq!(rt; memory.store.get(2), 3);
     }
 
     #[test]
     fn a_raise_wipes_the_variable_of_its_loop(rt: HostRuntime) {
         let looping = program(&[
             set(5, 7),
-            line(b'W', 0, 5, 3),
-            line(b'U', 0, 0, 0),
+            repeat(5, 3),
+            Instruction::Raise { condition: 0 },
             set(5, 8),
-            line(b'K', 0, 5, 3),
+            again(5, 3),
         ]);
-        let mut store = SparseStore::new();
-        let mut up = 2;
-        let (ending, used) = pass(&looping, &masks(), &mut store, &mut up, 100);
-        assert_eq!(rt; ending, Ending::Done);
-        assert_eq!(rt; used, 1);
-        assert_eq!(rt; store.get(5), 0);
-        assert_eq!(rt; up, 3);
+        let mut memory = Memory {
+            store: SparseStore::new(),
+            up: 2,
+        };
+        let ending = memory.pass(&masks(), &looping, 100);
+        assert_eq!(rt; ending, Ending::Done { used: 1 });
+        assert_eq!(rt; memory.store.get(5), 0);
+        assert_eq!(rt; memory.up, 3);
     }
 
     #[test]
     fn a_release_asks_for_all_its_conditions(rt: HostRuntime) {
         let releasing = program(&[
             set(0, 9),
-            line(b'D', 1, 0, 0),
-            line(b'U', 3, 0, 0),
-            line(b'D', 2, 0, 0),
+            release(1, 0, 0),
+            Instruction::Raise { condition: 3 },
+            release(2, 0, 0),
         ]);
-        let mut store = DenseStore::new();
-        let mut up = 2;
-        let (_, _) = pass(&releasing, &masks(), &mut store, &mut up, 0);
-        assert_eq!(rt; store.get(1), 0);
-        assert_eq!(rt; store.get(2), 9);
+        let mut memory = Memory {
+            store: DenseStore::new(),
+            up: 2,
+        };
+        memory.pass(&masks(), &releasing, 0);
+        assert_eq!(rt; memory.store.get(1), 0);
+        assert_eq!(rt; memory.store.get(2), 9);
     }
 
     #[test]
     fn blocks_are_chosen_by_variables_and_conditions(rt: HostRuntime) {
         let choosing = program(&[
-            line(b'I', 0, 0, 2),
+            Instruction::IfVariable {
+                variable: 0,
+                way: 2,
+            },
             set(1, 1),
-            line(b'J', 0, 0, 2),
+            Instruction::Jump { way: 2 },
             set(1, 2),
-            line(b'K', 0, 0, 0),
-            line(b'Q', 1, 0, 2),
+            Instruction::End,
+            Instruction::IfCondition {
+                condition: 1,
+                way: 2,
+            },
             set(2, 1),
-            line(b'J', 0, 0, 2),
+            Instruction::Jump { way: 2 },
             set(2, 2),
-            line(b'K', 0, 0, 0),
+            Instruction::End,
         ]);
-        let mut store = DenseStore::new();
-        let mut up = 2;
-        let (ending, used) = pass(&choosing, &masks(), &mut store, &mut up, 0);
-        assert_eq!(rt; ending, Ending::Done);
-        assert_eq!(rt; used, 0);
-        assert_eq!(rt; store.get(1), 2);
-        assert_eq!(rt; store.get(2), 1);
+        let mut memory = Memory {
+            store: DenseStore::new(),
+            up: 2,
+        };
+        let ending = memory.pass(&masks(), &choosing, 0);
+        assert_eq!(rt; ending, Ending::Done { used: 0 });
+        assert_eq!(rt; memory.store.get(1), 2);
+        assert_eq!(rt; memory.store.get(2), 1);
     }
 
     #[test]
     fn writes_and_raises_of_a_caller(rt: HostRuntime) {
-        let mut store = SparseStore::new();
-        let mut up = 0;
-        write(&masks(), &mut store, up, 5, i32::MIN);
-        assert_eq!(rt; store.get(5), i32::MIN);
-        raise(&masks(), &mut store, &mut up, 0);
-        assert_eq!(rt; store.get(5), 0);
-        write(&masks(), &mut store, up, 5, 4);
-        assert_eq!(rt; store.get(5), 0);
-        raise(&masks(), &mut store, &mut up, 16);
-        assert_eq!(rt; up, 1);
+        let mut memory = Memory {
+            store: SparseStore::new(),
+            up: 0,
+        };
+        memory.write(&masks(), 5, i32::MIN);
+        assert_eq!(rt; memory.store.get(5), i32::MIN);
+        memory.raise(&masks(), 0);
+        assert_eq!(rt; memory.store.get(5), 0);
+        memory.write(&masks(), 5, 4);
+        assert_eq!(rt; memory.store.get(5), 0);
+        memory.raise(&masks(), 16);
+        assert_eq!(rt; memory.up, 1);
     }
 }

@@ -1,8 +1,8 @@
 -- Commands one after another, and blocks within commands. Assumes nothing.
-use Rattle.std.proofs.Common.{◌≡◌, ℕ, ◌+◌, ◌-◌, ◌*◌, ◌%◌, ◌^◌, ◌<◌, ◌≤◌, true, false, ◌&&◌, eqb, ltb, ◌≢◌, ◌⊎◌, List, [], ◌∷◌, ◌++◌, length, get_or, pos, sym, refl, ap, ◌∙◌, subst, inl, inr, arith, length-append, length-set, get_or-set_other, get_or-set_same, w32, to_z}
+use Rattle.std.proofs.Common.{◌≡◌, ℕ, ◌+◌, ◌-◌, ◌*◌, ◌%◌, ◌^◌, ◌<◌, ◌≤◌, true, false, ltb, ◌≢◌, ◌⊎◌, Some, None, Option, List, [], ◌∷◌, ◌++◌, length, get_or, sym, refl, ap, ◌∙◌, subst, inl, inr, arith, length-append, length-set, get_or-set_other, get_or-set_same, w32, to_z}
 use lib.ListN as list
 use Rattle.std.proofs.lemmas.List.{append_assoc, append-nil}
-use Rattle.std.proofs.lemmas.Bool.{and_parts, eqb-true, cond-false, lt-ltb}
+use Rattle.std.proofs.lemmas.Bool.{cond-false, lt-ltb}
 use Rattle.lattice.specs.Lattice.{Lattice}
 use Rattle.records.specs.declared.Record.{Record}
 use Rattle.records.specs.declared.refusal.Refusal.{Refusal}
@@ -13,18 +13,20 @@ use Rattle.machine.specs.Typing.{under_variable}
 use Rattle.flow.specs.declared.masks.FlowMasks.{FlowMasks}
 use Rattle.program.specs.declared.context.Context.{Context as Masks}
 use Rattle.program.specs.declared.innermost.Innermost.{Innermost}
-use Rattle.program.specs.declared.innermost.Innermost.TheVariants.{Outermost, First, Second, Loop}
+use Rattle.program.specs.declared.innermost.Innermost.TheVariants.{First, Second, Loop}
 use Rattle.program.specs.declared.innermost.RecordKind.{RecordKind}
-use Rattle.program.specs.declared.innermost.RecordKind.TheVariants.{Set, Sign as OneSign, Release, Raise, VariableTest, ConditionTest, Loop as While, Mark, Misplaced}
+use Rattle.program.specs.declared.innermost.RecordKind.TheVariants.{Set, Sign as OneSign, Release, Raise, VariableTest, ConditionTest, Loop as While, Mark}
 use Rattle.program.specs.declared.kept.Instruction.{Instruction}
-use Rattle.program.specs.Kept.{blank, instruction, size, linked, Placed}
-use Rattle.program.specs.Keeping.{as_written}
-use Rattle.program.specs.Rules.{Test, on_variable, on_condition, branch, Block, then_block, else_block, loop_block, at, Kind, kind, sets, signs, releases, raises, variable_tests, condition_tests, loops, none, rest_zero, established, answer}
+use Rattle.program.specs.declared.kept.Instruction.TheVariants as kept
+use Rattle.program.specs.declared.kept.Sign.{Sign as KeptSign}
+use Rattle.program.specs.Kept.{blank, sign_of, size, linked, Placed}
+use Rattle.program.specs.Keeping.{kept_as}
+use Rattle.program.specs.Rules.{Test, on_variable, on_condition, branch, Block, then_block, else_block, loop_block, at, Kind, kind, sets, signs, releases, raises, loops, none, established, answer}
 use Rattle.program.specs.Contexts.{with_variable, with_conditions, inside_of}
 use Rattle.program.specs.Letters.{innermost_of}
 use Rattle.program.specs.Reading.{context_of, Declared, Alike, Refused, Named, Passed, opening, Branches, Stand, Reads, Ends, BlockRead, end_bytes}
 use Rattle.program.proofs.ContextMasks.{masked_variable, masked_condition}
-use Rattle.program.proofs.LetterSteps.{Letter, letter_of_lem, kind_found}
+use Rattle.program.proofs.LetterSteps.{kept_sign-of, kind_found}
 use Rattle.program.proofs.Reaches.{declared_variable_lem, declared_condition_lem}
 use Rattle.program.proofs.Steps as steps
 
@@ -52,18 +54,18 @@ long (combine s a b c) = refl
 long (release a b r) = refl
 long (raise c) = refl
 long (if_variable b c d) =
-    let p = length-append (linked c) (instruction 74 0 0 (size d + 1) ∷ (linked d ++ (instruction 75 0 0 0 ∷ []))) in
-    let q = length-append (linked d) (instruction 75 0 0 0 ∷ []) in
+    let p = length-append (linked c) (kept.Jump (size d + 1) ∷ (linked d ++ (kept.End ∷ []))) in
+    let q = length-append (linked d) (kept.End ∷ []) in
     omega (arith, long c, long d, p, q)
 long (if_condition a c d) =
-    let p = length-append (linked c) (instruction 74 0 0 (size d + 1) ∷ (linked d ++ (instruction 75 0 0 0 ∷ []))) in
-    let q = length-append (linked d) (instruction 75 0 0 0 ∷ []) in
+    let p = length-append (linked c) (kept.Jump (size d + 1) ∷ (linked d ++ (kept.End ∷ []))) in
+    let q = length-append (linked d) (kept.End ∷ []) in
     omega (arith, long c, long d, p, q)
-long (while b c) = let p = length-append (linked c) (instruction 75 0 b (size c + 1) ∷ []) in omega (arith, long c, p)
+long (while b c) = let p = length-append (linked c) (kept.Again b (size c + 1) ∷ []) in omega (arith, long c, p)
 
 -- ── commands one after another ──
 
-module _ (m : FlowMasks) (pc : Masks) (opened : ℕ) (inner : Innermost) where
+module _ (m : FlowMasks) (pc : Masks) (opened : ℕ) (inner : Option Innermost) where
   pub reads_none : (place : ℕ) (rs : List Record) (xs : List Instruction) → Reads m pc opened inner place rs xs xs place rs
   reads_none place rs xs = record {
     commands = λ c. c;
@@ -105,106 +107,90 @@ module _ (m : FlowMasks) (pc : Masks) (opened : ℕ) (inner : Innermost) where
 -- ── where a block ends ──
 
 module _ (m : FlowMasks) (pc : Masks) (opened : ℕ) where
-  pub ends_mark : (inner : Innermost) (place : ℕ) (r : Record) (left rest : List Record) → left ≡ r ∷ rest → Passed m pc opened inner place r Mark → Ends m pc opened inner place left rest
-  ends_mark Outermost place r left rest e p = absurd (kind_found Mark r.letter Outermost p.is)
-  ends_mark First place r left rest e p = (r, e, p)
-  ends_mark Second place r left rest e p = (r, e, p)
-  ends_mark Loop place r left rest e p = (r, e, p)
+  pub ends_mark : (inner : Option Innermost) (place : ℕ) (r : Record) (left rest : List Record) → left ≡ r ∷ rest → Passed m pc opened inner place r Mark → Ends m pc opened inner place left rest
+  ends_mark None place r left rest e p = absurd (kind_found (Some Mark) r.letter None p.is)
+  ends_mark (Some i) place r left rest e p = (r, e, p)
 
-  pub mark_bytes : (inner : Innermost) (place : ℕ) (r : Record) → Passed m pc opened inner place r Mark → end_bytes inner ≡ 8
-  mark_bytes Outermost place r p = absurd (kind_found Mark r.letter Outermost p.is)
-  mark_bytes First place r p = refl
-  mark_bytes Second place r p = refl
-  mark_bytes Loop place r p = refl
+  pub mark_bytes : (inner : Option Innermost) (place : ℕ) (r : Record) → Passed m pc opened inner place r Mark → end_bytes inner ≡ 8
+  mark_bytes None place r p = absurd (kind_found (Some Mark) r.letter None p.is)
+  mark_bytes (Some i) place r p = refl
 
-  pub ends_outermost : (inner : Innermost) (place : ℕ) (left rest : List Record) → inner ≡ Outermost → left ≡ [] → Ends m pc opened inner place left rest
+  pub ends_outermost : (inner : Option Innermost) (place : ℕ) (left rest : List Record) → inner ≡ None → left ≡ [] → Ends m pc opened inner place left rest
   ends_outermost inner place left rest e q = subst (λ i. Ends m pc opened i place left rest) (sym e) q
 
-  some_block : (blocks : List Block) → innermost_of blocks ≢ Outermost → none blocks ≡ false
-  some_block [] h = absurd (h refl)
+  some_block : {i : Innermost} (blocks : List Block) → innermost_of blocks ≡ Some i → none blocks ≡ false
+  some_block [] h = cc
   some_block (b ∷ bs) h = refl
 
-  pub left_open : (inner : Innermost) (place : ℕ) → inner ≢ Outermost → Refused m pc opened inner place [] (refusal 12 place 0)
-  left_open inner place h = record {
-    says = λ C sh blocks around A.
-        steps.end_of_records C sh place blocks (context_of pc) around ∙ cond-false (none blocks) _ _ (some_block blocks (λ e. h (sym A.innermost ∙ e)));
+  pub left_open : {i : Innermost} (inner : Option Innermost) (place : ℕ) → inner ≡ Some i → Refused m pc opened inner place [] (refusal 12 place 0)
+  left_open inner place e = record {
+    says = λ C sh blocks around A. steps.end_of_records C sh place blocks (context_of pc) around ∙ cond-false (none blocks) _ _ (some_block blocks (A.innermost ∙ e));
   }
 
 -- ── a command without blocks ──
 
-module _ (m : FlowMasks) (pc : Masks) (opened : ℕ) (inner : Innermost) (place : ℕ) (r : Record) where
-  letter : (k : Kind) → kind r.letter ≡ k → Letter k r.letter
-  letter k e = subst (λ x. Letter x r.letter) e (letter_of_lem r.letter)
-
+module _ (m : FlowMasks) (pc : Masks) (opened : ℕ) (inner : Option Innermost) (place : ℕ) (r : Record) where
   -- one record, one command
-  alone : (k : RecordKind) (kd : Kind) (c : Command) (rs : List Record) (xs : List Instruction) → Passed m pc opened inner place r k → kind r.letter ≡ kd → linked c ≡ as_written r ∷ [] → Placed c
+  alone : (k : RecordKind) (kd : Kind) (c : Command) (rs : List Record) (xs : List Instruction) → Passed m pc opened inner place r k → kind r.letter ≡ kd → linked c ≡ kept_as k r 0 ∷ [] → Placed c
       → ((C : Lattice) (sh : Sheet) (blocks : List Block) (around : Command → Command)
       → answer C sh (established (at place blocks (context_of pc) around) r kd) rs ≡ answer C sh (at (place + 1) blocks (context_of pc) (λ d. around (c ⨾ d))) rs)
-      → place < length xs → Reads m pc opened inner place (r ∷ rs) xs (list.set xs place (as_written r)) (place + 1) rs
+      → place < length xs → Reads m pc opened inner place (r ∷ rs) xs (list.set xs place (kept_as k r 0)) (place + 1) rs
   alone k kd c rs xs p q l s g h = record {
     commands = λ d. c ⨾ d;
-    instructions = as_written r ∷ [];
+    instructions = kept_as k r 0 ∷ [];
     placed = λ d e. (s, e);
     links = λ d. ap (λ ys. ys ++ linked d) l;
-    stand = (get_or-set_same xs place (as_written r) blank h, tt);
+    stand = (get_or-set_same xs place (kept_as k r 0) blank h, tt);
     reached = refl;
-    earlier = λ i e. over xs place i (as_written r) (λ z. omega arith);
+    earlier = λ i e. over xs place i (kept_as k r 0) (λ z. omega arith);
     goes = λ C sh blocks around A. p.goes C sh blocks around A rs ∙ ap (λ x. answer C sh (established (at place blocks (context_of pc) around) r x) rs) q ∙ g C sh blocks around;
   }
 
   module _ (rs : List Record) (xs : List Instruction) (h : place < length xs) where
-    plain_set : Passed m pc opened inner place r Set → Reads m pc opened inner place (r ∷ rs) xs (list.set xs place (as_written r)) (place + 1) rs
+    abbrev Kept : RecordKind → Type 0
+    Kept k = Reads m pc opened inner place (r ∷ rs) xs (list.set xs place (kept_as k r 0)) (place + 1) rs
+
+    plain_set : Passed m pc opened inner place r Set → Kept Set
     plain_set p =
-        let q = kind_found Set r.letter inner p.is in
-        let z = and_parts (eqb r.b 0) (eqb r.c 0) (sym (ap (rest_zero r) q) ∙ p.rest) in
-        let l : linked (set r.a (to_z w32 r.n)) ≡ as_written r ∷ [] = λ i. record { letter = sym (letter sets q) i; a = r.a; b = sym (eqb-true r.b 0 z.0) i; c = sym (eqb-true r.c 0 z.1) i; n = to_z w32 r.n } ∷ [] in
+        let q = kind_found (Some Set) r.letter inner p.is in
         let a : r.a < m.variables = subst (Named m r) q p.named in
-        alone Set sets (set r.a (to_z w32 r.n)) rs xs p q l (omega (arith, m.counts)) (λ C sh blocks around. refl) h
+        alone Set sets (set r.a (to_z w32 r.n)) rs xs p q refl (omega (arith, m.counts)) (λ C sh blocks around. refl) h
 
-    plain_sign : Passed m pc opened inner place r OneSign → Reads m pc opened inner place (r ∷ rs) xs (list.set xs place (as_written r)) (place + 1) rs
-    plain_sign p =
-        let s = (kind_found OneSign r.letter inner p.is).0 in
-        let q = (kind_found OneSign r.letter inner p.is).1 in
-        let z : r.n ≡ 0 = eqb-true r.n 0 (sym (ap (rest_zero r) q) ∙ p.rest) in
-        let l : linked (combine s r.a r.b r.c) ≡ as_written r ∷ [] = λ i. record { letter = sym (letter (signs s) q) i; a = r.a; b = r.b; c = r.c; n = to_z w32 (sym z i) } ∷ [] in
+    plain_sign : (s : KeptSign) → Passed m pc opened inner place r (OneSign s) → Kept (OneSign s)
+    plain_sign s p =
+        let q = kind_found (Some (OneSign s)) r.letter inner p.is in
         let a : r.a < m.variables = (subst (Named m r) q p.named).0 in
-        alone OneSign (signs s) (combine s r.a r.b r.c) rs xs p q l (omega (arith, m.counts)) (λ C sh blocks around. refl) h
+        alone (OneSign s) (signs (sign_of s)) (combine (sign_of s) r.a r.b r.c) rs xs p q (ap (λ x. kept.Combine x r.a r.b r.c ∷ []) (kept_sign-of s)) (omega (arith, m.counts)) (λ C sh blocks around. refl) h
 
-    plain_release : Passed m pc opened inner place r Release → Reads m pc opened inner place (r ∷ rs) xs (list.set xs place (as_written r)) (place + 1) rs
+    plain_release : Passed m pc opened inner place r Release → Kept Release
     plain_release p =
-        let q = kind_found Release r.letter inner p.is in
-        let z : r.n ≡ 0 = eqb-true r.n 0 (sym (ap (rest_zero r) q) ∙ p.rest) in
-        let l : linked (release r.a r.b r.c) ≡ as_written r ∷ [] = λ i. record { letter = sym (letter releases q) i; a = r.a; b = r.b; c = r.c; n = to_z w32 (sym z i) } ∷ [] in
+        let q = kind_found (Some Release) r.letter inner p.is in
         let a : r.a < m.variables = (subst (Named m r) q p.named).0 in
-        alone Release releases (release r.a r.b r.c) rs xs p q l (omega (arith, m.counts)) (λ C sh blocks around. refl) h
+        alone Release releases (release r.a r.b r.c) rs xs p q refl (omega (arith, m.counts)) (λ C sh blocks around. refl) h
 
-    plain_raise : Passed m pc opened inner place r Raise → Reads m pc opened inner place (r ∷ rs) xs (list.set xs place (as_written r)) (place + 1) rs
+    plain_raise : Passed m pc opened inner place r Raise → Kept Raise
     plain_raise p =
-        let q = kind_found Raise r.letter inner p.is in
-        let z = and_parts (eqb r.b 0) (eqb r.c 0 && eqb r.n 0) (sym (ap (rest_zero r) q) ∙ p.rest) in
-        let y = and_parts (eqb r.c 0) (eqb r.n 0) z.1 in
-        let l : linked (raise r.a) ≡ as_written r ∷ [] = λ i. record { letter = sym (letter raises q) i; a = r.a; b = sym (eqb-true r.b 0 z.0) i; c = sym (eqb-true r.c 0 y.0) i; n = to_z w32 (sym (eqb-true r.n 0 y.1) i) } ∷ [] in
+        let q = kind_found (Some Raise) r.letter inner p.is in
         let a : r.a < m.conditions = subst (Named m r) q p.named in
-        alone Raise raises (raise r.a) rs xs p q l (omega (arith, m.counts)) (λ C sh blocks around. refl) h
+        alone Raise raises (raise r.a) rs xs p q refl (omega (arith, m.counts)) (λ C sh blocks around. refl) h
 
-    pub plain_reads : (k : RecordKind) (x : Instruction) → x ≡ as_written r → Passed m pc opened inner place r k → k ≢ VariableTest → k ≢ ConditionTest → k ≢ While → k ≢ Mark
+    pub plain_reads : (k : RecordKind) (x : Instruction) → x ≡ kept_as k r 0 → Passed m pc opened inner place r k → k ≢ VariableTest → k ≢ ConditionTest → k ≢ While → k ≢ Mark
         → Reads m pc opened inner place (r ∷ rs) xs (list.set xs place x) (place + 1) rs
     plain_reads k x e p v c w n = subst (λ y. Reads m pc opened inner place (r ∷ rs) xs (list.set xs place y) (place + 1) rs) (sym e) (by k p v c w n)
       where
-        by : (j : RecordKind) → Passed m pc opened inner place r j → j ≢ VariableTest → j ≢ ConditionTest → j ≢ While → j ≢ Mark → Reads m pc opened inner place (r ∷ rs) xs (list.set xs place (as_written r)) (place + 1) rs
+        by : (j : RecordKind) → Passed m pc opened inner place r j → j ≢ VariableTest → j ≢ ConditionTest → j ≢ While → j ≢ Mark → Kept j
         by Set p v c w n = plain_set p
-        by OneSign p v c w n = plain_sign p
+        by (OneSign s) p v c w n = plain_sign s p
         by Release p v c w n = plain_release p
         by Raise p v c w n = plain_raise p
         by VariableTest p v c w n = absurd (v refl)
         by ConditionTest p v c w n = absurd (c refl)
         by While p v c w n = absurd (w refl)
         by Mark p v c w n = absurd (n refl)
-        by Misplaced p v c w n = absurd (p.stands refl)
 
 -- ── the command that a block is ──
 
-module _ {m : FlowMasks} {pc : Masks} {opened : ℕ} {inner : Innermost} {place next : ℕ} {rs left : List Record} {xs ys : List Instruction} (R : Reads m pc opened inner place rs xs ys next left) where
+module _ {m : FlowMasks} {pc : Masks} {opened : ℕ} {inner : Option Innermost} {place next : ℕ} {rs left : List Record} {xs ys : List Instruction} (R : Reads m pc opened inner place rs xs ys next left) where
   abbrev pub body : Command
   body = R.commands skip
 
@@ -225,9 +211,9 @@ module _ {m : FlowMasks} {pc : Masks} {opened : ℕ} {inner : Innermost} {place 
 deeper : (bs : List Block) (b : Block) (opened : ℕ) → length bs ≡ opened → length (b ∷ bs) ≡ opened + 1
 deeper bs b opened e = omega (arith, e)
 
-module _ (m : FlowMasks) (pc : Masks) (opened : ℕ) (inner : Innermost) (place : ℕ) (r : Record) (rs : List Record) (inside : Masks) (p : Passed m pc opened inner place r While) (e : inside ≡ with_variable r.b pc) where
+module _ (m : FlowMasks) (pc : Masks) (opened : ℕ) (inner : Option Innermost) (place : ℕ) (r : Record) (rs : List Record) (inside : Masks) (p : Passed m pc opened inner place r While) (e : inside ≡ with_variable r.b pc) where
   q : kind r.letter ≡ loops
-  q = kind_found While r.letter inner p.is
+  q = kind_found (Some While) r.letter inner p.is
 
   tested_there : r.b < m.variables
   tested_there = subst (Named m r) q p.named
@@ -235,7 +221,7 @@ module _ (m : FlowMasks) (pc : Masks) (opened : ℕ) (inner : Innermost) (place 
   loop_context : under_variable r.b (context_of pc) ≡ context_of inside
   loop_context = masked_variable r.b pc.variables pc.conditions (omega (arith, tested_there, m.counts)) ∙ ap context_of (sym e)
 
-  loop_alike : (C : Lattice) (sh : Sheet) (blocks : List Block) (around : Command → Command) → Alike C sh m pc opened inner blocks → Alike C sh m inside (opened + 1) Loop (loop_block r.b (context_of pc) around ∷ blocks)
+  loop_alike : (C : Lattice) (sh : Sheet) (blocks : List Block) (around : Command → Command) → Alike C sh m pc opened inner blocks → Alike C sh m inside (opened + 1) (Some Loop) (loop_block r.b (context_of pc) around ∷ blocks)
   loop_alike C sh blocks around A = record {
     lawful = A.lawful;
     usable = A.usable;
@@ -251,10 +237,10 @@ module _ (m : FlowMasks) (pc : Masks) (opened : ℕ) (inner : Innermost) (place 
       p.goes C sh blocks around A rs ∙ ap (λ x. answer C sh (established (at place blocks (context_of pc) around) r x) rs) q
       ∙ ap (λ x. answer C sh (at (place + 1) (loop_block r.b (context_of pc) around ∷ blocks) x (λ c. c)) rs) loop_context
 
-  pub loop_refused : (x : Refusal) → Refused m inside (opened + 1) Loop (place + 1) rs x → Refused m pc opened inner place (r ∷ rs) x
+  pub loop_refused : (x : Refusal) → Refused m inside (opened + 1) (Some Loop) (place + 1) rs x → Refused m pc opened inner place (r ∷ rs) x
   loop_refused x f = record { says = λ C sh blocks around A. loop_opens C sh blocks around A ∙ f.says C sh (loop_block r.b (context_of pc) around ∷ blocks) (λ c. c) (loop_alike C sh blocks around A) }
 
-  module _ (xs ys : List Instruction) (end : ℕ) (rest : List Record) (B : BlockRead m inside (opened + 1) Loop (place + 1) rs xs ys end rest) where
+  module _ (xs ys : List Instruction) (end : ℕ) (rest : List Record) (B : BlockRead m inside (opened + 1) (Some Loop) (place + 1) rs xs ys end rest) where
     abbrev inner_block : Command
     inner_block = body B.reads
 
@@ -267,9 +253,9 @@ module _ (m : FlowMasks) (pc : Masks) (opened : ℕ) (inner : Innermost) (place 
         let mark = B.ends.2 in
         loop_opens C sh blocks around A ∙ B.reads.goes C sh bs (λ c. c) A' ∙ ap (λ l. answer C sh (at end bs (context_of inside) (λ c. B.reads.commands c)) l) B.ends.1
         ∙ mark.goes C sh bs (λ c. B.reads.commands c) A' rest
-        ∙ ap (λ x. answer C sh (established (at end bs (context_of inside) (λ c. B.reads.commands c)) k x) rest) (kind_found Mark k.letter Loop mark.is)
+        ∙ ap (λ x. answer C sh (established (at end bs (context_of inside) (λ c. B.reads.commands c)) k x) rest) (kind_found (Some Mark) k.letter (Some Loop) mark.is)
 
-    pub loop_reads : (x y : Instruction) → end < length ys → x ≡ instruction 87 0 r.b (end - place) → y ≡ instruction 75 0 r.b (end - place)
+    pub loop_reads : (x y : Instruction) → end < length ys → x ≡ kept.Loop r.b (end - place) → y ≡ kept.Again r.b (end - place)
         → Reads m pc opened inner place (r ∷ rs) xs (list.set (list.set ys place x) end y) (end + 1) rest
     loop_reads x y l ex ey =
         let c = inner_block in
@@ -278,9 +264,9 @@ module _ (m : FlowMasks) (pc : Masks) (opened : ℕ) (inner : Innermost) (place 
         let n : end - place ≡ size c + 1 = omega arith in
         let long-x : length (list.set ys place x) ≡ length ys = length-set ys place x in
         let elsewhere : (i : ℕ) → (i ≡ place → ⊥) → (i ≡ end → ⊥) → get_or us i blank ≡ get_or ys i blank = λ i f g. over (list.set ys place x) end i y g ∙ over ys place i x f in
-        let start : get_or us place blank ≡ instruction 87 0 r.b (size c + 1) = over (list.set ys place x) end place y (λ z. omega arith) ∙ get_or-set_same ys place x blank (omega arith) ∙ ex ∙ ap (instruction 87 0 r.b) n in
-        let last : get_or us end blank ≡ instruction 75 0 r.b (size c + 1) = get_or-set_same (list.set ys place x) end y blank (omega arith) ∙ ey ∙ ap (instruction 75 0 r.b) n in
-        let K : List Instruction = instruction 75 0 r.b (size c + 1) ∷ [] in
+        let start : get_or us place blank ≡ kept.Loop r.b (size c + 1) = over (list.set ys place x) end place y (λ z. omega arith) ∙ get_or-set_same ys place x blank (omega arith) ∙ ex ∙ ap (kept.Loop r.b) n in
+        let last : get_or us end blank ≡ kept.Again r.b (size c + 1) = get_or-set_same (list.set ys place x) end y blank (omega arith) ∙ ey ∙ ap (kept.Again r.b) n in
+        let K : List Instruction = kept.Again r.b (size c + 1) ∷ [] in
         record {
           commands = λ d. while r.b c ⨾ d;
           instructions = linked (while r.b c);
@@ -298,41 +284,39 @@ module _ (m : FlowMasks) (pc : Masks) (opened : ℕ) (inner : Innermost) (place 
 
 -- ── a test and its two blocks ──
 
-module _ (m : FlowMasks) (pc : Masks) (opened : ℕ) (inner : Innermost) (place : ℕ) (r : Record) where
-  branches_variable : Passed m pc opened inner place r VariableTest → (inside : Masks) → inside ≡ with_variable r.b pc → Branches m pc opened inner place r (on_variable r.b) inside
+module _ (m : FlowMasks) (pc : Masks) (opened : ℕ) (inner : Option Innermost) (place : ℕ) (r : Record) where
+  branches_variable : Passed m pc opened inner place r VariableTest → (inside : Masks) → inside ≡ with_variable r.b pc → Branches m pc opened inner place r VariableTest (on_variable r.b) inside
   branches_variable p inside e =
-      let q = kind_found VariableTest r.letter inner p.is in
-      let z = and_parts (eqb r.a 0) (eqb r.c 0 && eqb r.n 0) (sym (ap (rest_zero r) q) ∙ p.rest) in
+      let q = kind_found (Some VariableTest) r.letter inner p.is in
       let v : r.b < m.variables = subst (Named m r) q p.named in
       let small : r.b < 64 = omega (arith, m.counts) in
       record {
-        opens = λ n i. record { letter = sym (letter m pc opened inner place r variable_tests q) i; a = sym (eqb-true r.a 0 z.0) i; b = r.b; c = n; n = pos 0 };
+        opens = λ n. refl;
         under = masked_variable r.b pc.variables pc.conditions small ∙ ap context_of (sym e);
         declared = λ C sh blocks A. subst (Declared sh) (sym e) (declared_variable_lem sh pc r.b small (subst (λ n. ltb r.b n ≡ true) A.masks.variables (lt-ltb r.b m.variables v)) A.declared);
         goes = λ C sh blocks around A rs. p.goes C sh blocks around A rs ∙ ap (λ x. answer C sh (established (at place blocks (context_of pc) around) r x) rs) q;
       }
 
-  branches_condition : Passed m pc opened inner place r ConditionTest → (inside : Masks) → inside ≡ with_conditions ((1 * 2 ^ r.a) % 2 ^ 16) pc → Branches m pc opened inner place r (on_condition r.a) inside
+  branches_condition : Passed m pc opened inner place r ConditionTest → (inside : Masks) → inside ≡ with_conditions ((1 * 2 ^ r.a) % 2 ^ 16) pc → Branches m pc opened inner place r ConditionTest (on_condition r.a) inside
   branches_condition p inside e =
-      let q = kind_found ConditionTest r.letter inner p.is in
-      let z = and_parts (eqb r.b 0) (eqb r.c 0 && eqb r.n 0) (sym (ap (rest_zero r) q) ∙ p.rest) in
+      let q = kind_found (Some ConditionTest) r.letter inner p.is in
       let v : r.a < m.conditions = subst (Named m r) q p.named in
       let small : r.a < 16 = omega (arith, m.counts) in
       record {
-        opens = λ n i. record { letter = sym (letter m pc opened inner place r condition_tests q) i; a = r.a; b = sym (eqb-true r.b 0 z.0) i; c = n; n = pos 0 };
+        opens = λ n. refl;
         under = masked_condition r.a pc.variables pc.conditions small ∙ ap context_of (sym e);
         declared = λ C sh blocks A. subst (Declared sh) (sym e) (declared_condition_lem sh pc r.a small (subst (λ n. ltb r.a n ≡ true) A.masks.conditions (lt-ltb r.a m.conditions v)) A.declared);
         goes = λ C sh blocks around A rs. p.goes C sh blocks around A rs ∙ ap (λ x. answer C sh (established (at place blocks (context_of pc) around) r x) rs) q;
       }
 
-module _ (m : FlowMasks) (pc : Masks) (opened : ℕ) (inner : Innermost) (place : ℕ) (r : Record) where
-  pub branches : (k : RecordKind) (inside : Masks) → inside ≡ inside_of k r pc → Passed m pc opened inner place r k → (k ≡ VariableTest) ⊎ (k ≡ ConditionTest) → (t : Test) × Branches m pc opened inner place r t inside
+module _ (m : FlowMasks) (pc : Masks) (opened : ℕ) (inner : Option Innermost) (place : ℕ) (r : Record) where
+  pub branches : (k : RecordKind) (inside : Masks) → inside ≡ inside_of k r pc → Passed m pc opened inner place r k → (k ≡ VariableTest) ⊎ (k ≡ ConditionTest) → (t : Test) × Branches m pc opened inner place r k t inside
   branches k inside e h (inl q) =
-      (on_variable r.b, branches_variable m pc opened inner place r (subst (Passed m pc opened inner place r) q h) inside (e ∙ ap (λ x. inside_of x r pc) q))
+      (on_variable r.b, subst (λ x. Branches m pc opened inner place r x (on_variable r.b) inside) (sym q) (branches_variable m pc opened inner place r (subst (Passed m pc opened inner place r) q h) inside (e ∙ ap (λ x. inside_of x r pc) q)))
   branches k inside e h (inr q) =
-      (on_condition r.a, branches_condition m pc opened inner place r (subst (Passed m pc opened inner place r) q h) inside (e ∙ ap (λ x. inside_of x r pc) q))
+      (on_condition r.a, subst (λ x. Branches m pc opened inner place r x (on_condition r.a) inside) (sym q) (branches_condition m pc opened inner place r (subst (Passed m pc opened inner place r) q h) inside (e ∙ ap (λ x. inside_of x r pc) q)))
 
-branch_linked : (t : Test) (c d : Command) → linked (branch t c d) ≡ opening t (size c + 1) ∷ (linked c ++ (instruction 74 0 0 (size d + 1) ∷ (linked d ++ (instruction 75 0 0 0 ∷ []))))
+branch_linked : (t : Test) (c d : Command) → linked (branch t c d) ≡ opening t (size c + 1) ∷ (linked c ++ (kept.Jump (size d + 1) ∷ (linked d ++ (kept.End ∷ []))))
 branch_linked (on_variable v) c d = refl
 branch_linked (on_condition a) c d = refl
 
@@ -344,8 +328,8 @@ branch_size : (t : Test) (c d : Command) → size (branch t c d) ≡ size c + si
 branch_size (on_variable v) c d = refl
 branch_size (on_condition a) c d = refl
 
-module _ (m : FlowMasks) (pc : Masks) (opened : ℕ) (inner : Innermost) (place : ℕ) (r : Record) (rs : List Record) (t : Test) (inside : Masks) (T : Branches m pc opened inner place r t inside) where
-  within : (C : Lattice) (sh : Sheet) (blocks : List Block) (b : Block) (i : Innermost) → innermost_of (b ∷ blocks) ≡ i → Alike C sh m pc opened inner blocks → Alike C sh m inside (opened + 1) i (b ∷ blocks)
+module _ (m : FlowMasks) (pc : Masks) (opened : ℕ) (inner : Option Innermost) (place : ℕ) (r : Record) (rs : List Record) (k : RecordKind) (t : Test) (inside : Masks) (T : Branches m pc opened inner place r k t inside) where
+  within : (C : Lattice) (sh : Sheet) (blocks : List Block) (b : Block) (i : Option Innermost) → innermost_of (b ∷ blocks) ≡ i → Alike C sh m pc opened inner blocks → Alike C sh m inside (opened + 1) i (b ∷ blocks)
   within C sh blocks b i e A = record {
     lawful = A.lawful;
     usable = A.usable;
@@ -359,13 +343,13 @@ module _ (m : FlowMasks) (pc : Masks) (opened : ℕ) (inner : Innermost) (place 
       → answer C sh (at place blocks (context_of pc) around) (r ∷ rs) ≡ answer C sh (at (place + 1) (then_block t (context_of pc) around ∷ blocks) (context_of inside) (λ c. c)) rs
   test_opens C sh blocks around A = T.goes C sh blocks around A rs ∙ ap (λ x. answer C sh (at (place + 1) (then_block t (context_of pc) around ∷ blocks) x (λ c. c)) rs) T.under
 
-  pub first_refused : (x : Refusal) → Refused m inside (opened + 1) First (place + 1) rs x → Refused m pc opened inner place (r ∷ rs) x
+  pub first_refused : (x : Refusal) → Refused m inside (opened + 1) (Some First) (place + 1) rs x → Refused m pc opened inner place (r ∷ rs) x
   first_refused x f = record {
     says = λ C sh blocks around A.
-        test_opens C sh blocks around A ∙ f.says C sh (then_block t (context_of pc) around ∷ blocks) (λ c. c) (within C sh blocks (then_block t (context_of pc) around) First refl A);
+        test_opens C sh blocks around A ∙ f.says C sh (then_block t (context_of pc) around ∷ blocks) (λ c. c) (within C sh blocks (then_block t (context_of pc) around) (Some First) refl A);
   }
 
-  module _ (xs ys : List Instruction) (middle : ℕ) (second : List Record) (B : BlockRead m inside (opened + 1) First (place + 1) rs xs ys middle second) where
+  module _ (xs ys : List Instruction) (middle : ℕ) (second : List Record) (B : BlockRead m inside (opened + 1) (Some First) (place + 1) rs xs ys middle second) where
     abbrev then_block_lem : Command
     then_block_lem = body B.reads
 
@@ -373,21 +357,21 @@ module _ (m : FlowMasks) (pc : Masks) (opened : ℕ) (inner : Innermost) (place 
         → answer C sh (at place blocks (context_of pc) around) (r ∷ rs) ≡ answer C sh (at (middle + 1) (else_block t then_block_lem (context_of pc) around ∷ blocks) (context_of inside) (λ c. c)) second
     test_turns C sh blocks around A =
         let bs = then_block t (context_of pc) around ∷ blocks in
-        let A' = within C sh blocks (then_block t (context_of pc) around) First refl A in
+        let A' = within C sh blocks (then_block t (context_of pc) around) (Some First) refl A in
         let k = B.ends.0 in
         let mark = B.ends.2 in
         test_opens C sh blocks around A ∙ B.reads.goes C sh bs (λ c. c) A' ∙ ap (λ l. answer C sh (at middle bs (context_of inside) (λ c. B.reads.commands c)) l) B.ends.1
         ∙ mark.goes C sh bs (λ c. B.reads.commands c) A' second
-        ∙ ap (λ x. answer C sh (established (at middle bs (context_of inside) (λ c. B.reads.commands c)) k x) second) (kind_found Mark k.letter First mark.is)
+        ∙ ap (λ x. answer C sh (established (at middle bs (context_of inside) (λ c. B.reads.commands c)) k x) second) (kind_found (Some Mark) k.letter (Some First) mark.is)
         ∙ ap (λ x. answer C sh (at (middle + 1) (else_block t then_block_lem (context_of pc) around ∷ blocks) x (λ c. c)) second) T.under
 
-    pub second_refused : (x : Refusal) → Refused m inside (opened + 1) Second (middle + 1) second x → Refused m pc opened inner place (r ∷ rs) x
+    pub second_refused : (x : Refusal) → Refused m inside (opened + 1) (Some Second) (middle + 1) second x → Refused m pc opened inner place (r ∷ rs) x
     second_refused x f = record {
       says = λ C sh blocks around A.
-          test_turns C sh blocks around A ∙ f.says C sh (else_block t then_block_lem (context_of pc) around ∷ blocks) (λ c. c) (within C sh blocks (else_block t then_block_lem (context_of pc) around) Second refl A);
+          test_turns C sh blocks around A ∙ f.says C sh (else_block t then_block_lem (context_of pc) around ∷ blocks) (λ c. c) (within C sh blocks (else_block t then_block_lem (context_of pc) around) (Some Second) refl A);
     }
 
-    module _ (zs : List Instruction) (end : ℕ) (rest : List Record) (D : BlockRead m inside (opened + 1) Second (middle + 1) second ys zs end rest) where
+    module _ (zs : List Instruction) (end : ℕ) (rest : List Record) (D : BlockRead m inside (opened + 1) (Some Second) (middle + 1) second ys zs end rest) where
       abbrev else_block_lem : Command
       else_block_lem = body D.reads
 
@@ -395,14 +379,14 @@ module _ (m : FlowMasks) (pc : Masks) (opened : ℕ) (inner : Innermost) (place 
           → answer C sh (at place blocks (context_of pc) around) (r ∷ rs) ≡ answer C sh (at (end + 1) blocks (context_of pc) (λ c. around (branch t then_block_lem else_block_lem ⨾ c))) rest
       branch_goes C sh blocks around A =
           let bs = else_block t then_block_lem (context_of pc) around ∷ blocks in
-          let A' = within C sh blocks (else_block t then_block_lem (context_of pc) around) Second refl A in
+          let A' = within C sh blocks (else_block t then_block_lem (context_of pc) around) (Some Second) refl A in
           let k = D.ends.0 in
           let mark = D.ends.2 in
           test_turns C sh blocks around A ∙ D.reads.goes C sh bs (λ c. c) A' ∙ ap (λ l. answer C sh (at end bs (context_of inside) (λ c. D.reads.commands c)) l) D.ends.1
           ∙ mark.goes C sh bs (λ c. D.reads.commands c) A' rest
-          ∙ ap (λ x. answer C sh (established (at end bs (context_of inside) (λ c. D.reads.commands c)) k x) rest) (kind_found Mark k.letter Second mark.is)
+          ∙ ap (λ x. answer C sh (established (at end bs (context_of inside) (λ c. D.reads.commands c)) k x) rest) (kind_found (Some Mark) k.letter (Some Second) mark.is)
 
-      pub branch_reads : (x y z : Instruction) → end < length zs → x ≡ instruction r.letter r.a r.b (middle - place) → y ≡ instruction 74 0 0 (end - middle) → z ≡ instruction 75 0 0 0
+      pub branch_reads : (x y z : Instruction) → end < length zs → x ≡ kept_as k r (middle - place) → y ≡ kept.Jump (end - middle) → z ≡ kept.End
           → Reads m pc opened inner place (r ∷ rs) xs (list.set (list.set (list.set zs place x) middle y) end z) (end + 1) rest
       branch_reads x y z l ex ey ez =
           let c = then_block_lem in
@@ -418,11 +402,11 @@ module _ (m : FlowMasks) (pc : Masks) (opened : ℕ) (inner : Innermost) (place 
           let long-y : length ws ≡ length vs = length-set vs middle y in
           let elsewhere : (i : ℕ) → (i ≡ place → ⊥) → (i ≡ middle → ⊥) → (i ≡ end → ⊥) → get_or us i blank ≡ get_or zs i blank = λ i f g h. over ws end i z h ∙ over vs middle i y g ∙ over zs place i x f in
           let start : get_or us place blank ≡ opening t (size c + 1) =
-          over ws end place z (λ q. omega arith) ∙ over vs middle place y (λ q. omega arith) ∙ get_or-set_same zs place x blank (omega arith) ∙ ex ∙ ap (instruction r.letter r.a r.b) nc ∙ sym (T.opens (size c + 1)) in
-          let mid : get_or us middle blank ≡ instruction 74 0 0 (size d + 1) = over ws end middle z (λ q. omega arith) ∙ get_or-set_same vs middle y blank (omega arith) ∙ ey ∙ ap (instruction 74 0 0) nd in
-          let last : get_or us end blank ≡ instruction 75 0 0 0 = get_or-set_same ws end z blank (omega arith) ∙ ez in
-          let K : List Instruction = instruction 75 0 0 0 ∷ [] in
-          let J : List Instruction = instruction 74 0 0 (size d + 1) ∷ (linked d ++ K) in
+          over ws end place z (λ q. omega arith) ∙ over vs middle place y (λ q. omega arith) ∙ get_or-set_same zs place x blank (omega arith) ∙ ex ∙ ap (kept_as k r) nc ∙ sym (T.opens (size c + 1)) in
+          let mid : get_or us middle blank ≡ kept.Jump (size d + 1) = over ws end middle z (λ q. omega arith) ∙ get_or-set_same vs middle y blank (omega arith) ∙ ey ∙ ap kept.Jump nd in
+          let last : get_or us end blank ≡ kept.End = get_or-set_same ws end z blank (omega arith) ∙ ez in
+          let K : List Instruction = kept.End ∷ [] in
+          let J : List Instruction = kept.Jump (size d + 1) ∷ (linked d ++ K) in
           let stand-c : Stand us (place + 1) (linked c) = stand_same ys us (place + 1) (linked c) (λ i g h. elsewhere i (λ q. omega arith) (λ q. omega (arith, long c)) (λ q. omega (arith, long c)) ∙ D.reads.earlier i (omega (arith, long c))) (body_stands B.reads) in
           let stand-d : Stand us (middle + 1) (linked d) = stand_same zs us (middle + 1) (linked d) (λ i g h. elsewhere i (λ q. omega arith) (λ q. omega arith) (λ q. omega (arith, long d))) (body_stands D.reads) in
           let stand-j : Stand us middle J = (mid, stand_join us (middle + 1) (linked d) K stand-d (stand_at us K (omega (arith, long d)) (last, tt))) in
@@ -439,7 +423,7 @@ module _ (m : FlowMasks) (pc : Masks) (opened : ℕ) (inner : Innermost) (place 
 
 -- ── equal contexts and kinds ──
 
-module _ (m : FlowMasks) {pc pc' : Masks} (opened : ℕ) (inner : Innermost) (e : pc ≡ pc') where
+module _ (m : FlowMasks) {pc pc' : Masks} (opened : ℕ) (inner : Option Innermost) (e : pc ≡ pc') where
   pub passed_under : {place : ℕ} {r : Record} {k k' : RecordKind} → k ≡ k' → Passed m pc opened inner place r k → Passed m pc' opened inner place r k'
   passed_under {place = place} {r = r} {k = k} {k' = k'} f h = subst (λ x. Passed m x opened inner place r k') e (subst (λ x. Passed m pc opened inner place r x) f h)
 

@@ -9,7 +9,6 @@ pub mod Acceptance
 pub mod ContextMasks
 pub mod Usable
 pub mod Readers
-pub mod Placing
 pub mod LetterSteps
 pub mod Misfits
 pub mod Reaches

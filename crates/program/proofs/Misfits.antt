@@ -1,8 +1,7 @@
 -- Masks of sixty-four bits, and the lowest bit of a misfit mask. Assumes nothing.
-use Rattle.std.proofs.Common.{◌≡◌, ℕ, ◌+◌, ◌-◌, ◌*◌, ◌/◌, ◌%◌, ◌^◌, ◌<◌, ◌≤◌, Bool, true, false, not, ◌&&◌, ◌||◌, eqb, sym, refl, ap, ◌∙◌, inl, inr, mod-eq_of_lt, arith}
-use native.Mathlib.Nat.{mul-mod_left}
+use Rattle.std.proofs.Common.{◌≡◌, ℕ, ◌+◌, ◌-◌, ◌/◌, ◌%◌, ◌^◌, ◌<◌, Bool, true, false, not, ◌&&◌, ◌||◌, eqb, sym, refl, ap, ◌∙◌, inl, inr, mod-eq_of_lt, arith}
 use lib.Bits.{bit_and, bit_xor, xor_add_and, and_mask}
-use Rattle.std.proofs.lemmas.Nat.{pow_pos, pow-add, pow_below}
+use Rattle.std.proofs.lemmas.Nat.{pow_pos, pow_below}
 use Rattle.std.proofs.lemmas.Bool.{cases_lt, both_ways, eq-eqb, and_parts, cond-true}
 use Rattle.records.specs.Refusals.{refusal}
 use Rattle.records.specs.Rules.{Reading, refused, Rule, rule, each_from, first}
@@ -12,15 +11,6 @@ use Rattle.policy.proofs.Masks.{bit_and_lem, bit_xor_lem, bit_pow, bit_zero, bit
 use Rattle.program.specs.Checks.{masked}
 use Rattle.program.specs.Rules.{each_within}
 use Rattle.program.specs.Misfits.{inside}
-
--- a variable that sixty-four bits have no room for
-pub no_variable : (v : ℕ) → 64 ≤ v → (1 * 2 ^ v) % 2 ^ 64 ≡ 0
-no_variable v h =
-    let e : v ≡ (v - 64) + 64 = omega arith in
-    ap (λ (n : ℕ). (1 * 2 ^ n) % 2 ^ 64) e ∙ ap (λ (n : ℕ). n % 2 ^ 64) (one (2 ^ (v - 64 + 64)) ∙ pow-add 2 (v - 64) 64) ∙ mul-mod_left (2 ^ (v - 64)) (2 ^ 64)
-  where
-    one : (n : ℕ) → 1 * n ≡ n
-    one n = omega arith
 
 full_bit : (w k : ℕ) → k < w → bit k (2 ^ w - 1) ≡ true
 full_bit w k h =

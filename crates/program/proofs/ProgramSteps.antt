@@ -1,5 +1,5 @@
 -- The whole program. Assumes nothing.
-use Rattle.std.proofs.Common.{◌≡◌, ℕ, suc, ◌+◌, ◌*◌, ◌%◌, ◌<◌, ◌≤◌, false, eqb, leb, List, [], ◌∷◌, length, take, drop, sym, refl, ap, ◌∙◌, subst, arith, drop-cons}
+use Rattle.std.proofs.Common.{◌≡◌, ℕ, suc, ◌+◌, ◌*◌, ◌%◌, ◌<◌, ◌≤◌, false, eqb, leb, None, List, [], ◌∷◌, length, take, drop, sym, refl, ap, ◌∙◌, subst, arith, drop-cons}
 use Rattle.std.proofs.lemmas.Bool.{cond-true, cond-false, and_from, eq-eqb, le-leb}
 use Rattle.lattice.specs.Lattice.{Lattice, Lawful}
 use Rattle.records.specs.declared.refusal.Refusal.{Refusal}
@@ -9,7 +9,6 @@ use Rattle.sheet.specs.Sheet.{Sheet}
 use Rattle.flow.specs.declared.masks.FlowMasks.{FlowMasks}
 use Rattle.flow.specs.Flows.{MasksOf}
 use Rattle.program.specs.declared.context.Context.{Context as Masks}
-use Rattle.program.specs.declared.innermost.Innermost.TheVariants.{Outermost}
 use Rattle.program.specs.declared.kept.Instruction.{Instruction}
 use Rattle.program.specs.declared.kept.Program.{Program}
 use Rattle.program.specs.Kept.{blank, linked}
@@ -35,20 +34,23 @@ pub wrong_length : (m : FlowMasks) (bs : List ℕ) → whole_records bs ≡ fals
 unfolding program_in
 wrong_length m bs h = record { answer = λ C sh W U M. cond-false (whole_records bs) _ _ h }
 
-module _ (m : FlowMasks) (bs : List ℕ) (whole : length bs % 8 ≡ 0) (short : length bs ≤ 2048) (pc : Masks) (e : pc ≡ under_none) where
+module _ (m : FlowMasks) (bs : List ℕ) (whole : length bs % 8 ≡ 0) (short : length bs ≤ 2048) (pc : Masks) (z : (pc.variables ≡ 0) × (pc.conditions ≡ 0)) where
+  e : pc ≡ under_none
+  e = λ i. record { variables = z.0 i; conditions = z.1 i }
+
   starts : (C : Lattice) (sh : Sheet) → program_in C sh bs ≡ answer C sh (at 0 [] (context_of pc) (λ c. c)) (records bs)
   unfolding program_in
   starts C sh =
       cond-true (whole_records bs) _ _ (and_from (eqb (length bs % 8) 0) (leb (length bs) 2048) (eq-eqb _ _ whole) (le-leb _ _ short))
       ∙ ap (λ x. answer C sh (at 0 [] x (λ c. c)) (records bs)) (masked_outermost ∙ ap context_of (sym e))
 
-  alike : (C : Lattice) (sh : Sheet) → Lawful C → UsableSheet C sh → MasksOf C sh m → Alike C sh m pc 0 Outermost []
-  alike C sh W U M = subst (λ x. Alike C sh m x 0 Outermost []) (sym e) (record { lawful = W; usable = U; masks = M; declared = declared_none sh; depth = refl; innermost = refl })
+  alike : (C : Lattice) (sh : Sheet) → Lawful C → UsableSheet C sh → MasksOf C sh m → Alike C sh m pc 0 None []
+  alike C sh W U M = subst (λ x. Alike C sh m x 0 None []) (sym e) (record { lawful = W; usable = U; masks = M; declared = declared_none sh; depth = refl; innermost = refl })
 
-  pub program_refused : (x : Refusal) → Refused m pc 0 Outermost 0 (records bs) x → ProgramRefused m bs x
+  pub program_refused : (x : Refusal) → Refused m pc 0 None 0 (records bs) x → ProgramRefused m bs x
   program_refused x f = record { answer = λ C sh W U M. starts C sh ∙ f.says C sh [] (λ c. c) (alike C sh W U M) }
 
-  pub program_read : (xs : List Instruction) (p : Program) (rest : List ℕ) → BlockRead m pc 0 Outermost 0 (records bs) xs p.instructions p.count (records rest)
+  pub program_read : (xs : List Instruction) (p : Program) (rest : List ℕ) → BlockRead m pc 0 None 0 (records bs) xs p.instructions p.count (records rest)
       → 8 * p.count + 0 + length rest ≡ 8 * 0 + length bs → length rest < 8 → ProgramRead m bs p
   program_read xs p rest B f s =
       let c = body B.reads in

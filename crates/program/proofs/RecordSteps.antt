@@ -1,7 +1,6 @@
 -- The rules that are asked of one record. Assumes nothing.
-use Rattle.std.proofs.Common.{◌≡◌, ℕ, ◌+◌, ◌/◌, ◌^◌, ◌<◌, Bool, true, false, ltb, List, [], ◌∷◌, get_or, Ok, Err, sym, refl, ap, ◌∙◌, subst, arith}
-use lib.Bits.{bit_and}
-use Rattle.std.proofs.lemmas.Bool.{cond-true, cond-false, eq-eqb, ne_eqb, ltb-true, both_ways}
+use Rattle.std.proofs.Common.{◌≡◌, ℕ, ◌+◌, ◌<◌, true, ltb, Some, None, Option, List, [], ◌∷◌, get_or, Result, ok_or, Ok, Err, sym, refl, ap, ◌∙◌, subst, arith}
+use Rattle.std.proofs.lemmas.Bool.{cond-true, ltb-true}
 use Rattle.lattice.specs.Lattice.{Lattice}
 use Rattle.records.specs.declared.Record.{Record}
 use Rattle.records.specs.declared.refusal.Refusal.{Refusal}
@@ -10,7 +9,6 @@ use Rattle.records.specs.Rules.{Reading, refused, Rule, rule, first, judged}
 use Rattle.records.proofs.Firsts.{AllHold, first_holds, judged_ok, judged_err}
 use Rattle.policy.specs.Policy.{Policy, leaf, KnownLevels}
 use Rattle.policy.specs.Masks.{bit, members}
-use Rattle.policy.proofs.Masks.{bit_test}
 use Rattle.sheet.specs.Sheet.{Sheet, policy_of, level_of, permit_at}
 use Rattle.machine.specs.Command.{Command}
 use Rattle.machine.specs.SoundSheet.{HasVariable, HasCondition, HasPermit}
@@ -21,9 +19,11 @@ use Rattle.flow.specs.declared.masks.FlowMasks.{FlowMasks}
 use Rattle.flow.specs.Flows.{no_inflow, no_variable_flow, no_permit, Admits}
 use Rattle.program.specs.declared.context.Context.{Context as Masks}
 use Rattle.program.specs.declared.innermost.Innermost.{Innermost}
-use Rattle.program.specs.declared.innermost.Innermost.TheVariants.{Outermost, First, Second, Loop}
+use Rattle.program.specs.declared.innermost.Innermost.TheVariants.{First, Second, Loop}
 use Rattle.program.specs.declared.innermost.RecordKind.{RecordKind}
-use Rattle.program.specs.declared.innermost.RecordKind.TheVariants.{Set, Sign as OneSign, Release, Raise, VariableTest, ConditionTest, Loop as While, Mark, Misplaced}
+use Rattle.program.specs.declared.innermost.RecordKind.TheVariants.{Set, Sign as OneSign, Release, Raise, VariableTest, ConditionTest, Loop as While, Mark}
+use Rattle.program.specs.declared.kept.Sign.{Sign as KeptSign}
+use Rattle.program.specs.Kept.{sign_of}
 use Rattle.program.specs.Rules.{Block, at, Kind, kind, sets, signs, releases, raises, variable_tests, condition_tests, loops, elses, ends, may_stand, rest_zero, widest, each_within, established, answer}
 use Rattle.program.specs.Deciding.{flows}
 use Rattle.program.specs.Checks.{masked, set_fields, three_fields, raise_fields, variable_test_fields, condition_test_fields, mark_fields}
@@ -35,46 +35,15 @@ use Rattle.program.proofs.LetterSteps.{Letter, letter_of_lem, kind_found, first_
 use Rattle.program.proofs.Reaches.{declared_variable_lem, declared_conditions, flows_mask, flowing_mask, reaches}
 use Rattle.program.proofs.Steps as steps
 
--- an equal context is asked alike
-pub asked_as : (number place : ℕ) {pc pc' : Masks} (vs cs : ℕ) (a x : Reading Command) → pc ≡ pc'
-    → first (each_within number place (context_of pc) (masked vs cs)) a ≡ x → first (each_within number place (context_of pc') (masked vs cs)) a ≡ x
-asked_as number place vs cs a x e h = subst (λ p. first (each_within number place (context_of p) (masked vs cs)) a ≡ x) e h
-
--- ── a release, over masks ──
-
-module _ (place : ℕ) (r : Record) (targets sources : ℕ) (a : Reading Command) where
-  abbrev released : Reading Command
-  released = first (rule 16 place (512 + r.c) (bit r.a targets) ∷ rule 18 place 0 (bit r.b sources) ∷ []) a
-
-  has : (v mask : ℕ) → bit_and (mask / 2 ^ v) 1 ≡ 1 → bit v mask ≡ true
-  has v mask e = sym (bit_test v mask) ∙ eq-eqb _ 1 e
-
-  lacks : (v mask : ℕ) → (bit_and (mask / 2 ^ v) 1 ≡ 1 → ⊥) → bit v mask ≡ false
-  lacks v mask e = sym (bit_test v mask) ∙ ne_eqb _ 1 e
-
-  pub release_target : (bit_and (targets / 2 ^ r.a) 1 ≡ 1 → ⊥) → released ≡ refused (refusal 16 place (512 + r.c))
-  release_target e = cond-false (bit r.a targets) _ _ (lacks r.a targets e)
-
-  pub release_source : bit_and (targets / 2 ^ r.a) 1 ≡ 1 → (bit_and (sources / 2 ^ r.b) 1 ≡ 1 → ⊥) → released ≡ refused (refusal 18 place 0)
-  release_source e f = cond-true (bit r.a targets) _ _ (has r.a targets e) ∙ cond-false (bit r.b sources) _ _ (lacks r.b sources f)
-
-  pub release_passes : bit_and (targets / 2 ^ r.a) 1 ≡ 1 → bit_and (sources / 2 ^ r.b) 1 ≡ 1 → released ≡ a
-  release_passes e f = cond-true (bit r.a targets) _ _ (has r.a targets e) ∙ cond-true (bit r.b sources) _ _ (has r.b sources f)
-
 -- ── the rules of a record, over a sheet's masks ──
 
-abbrev misplaced_kind : RecordKind → Bool
-misplaced_kind Set = false
-misplaced_kind OneSign = false
-misplaced_kind Release = false
-misplaced_kind Raise = false
-misplaced_kind VariableTest = false
-misplaced_kind ConditionTest = false
-misplaced_kind While = false
-misplaced_kind Mark = false
-misplaced_kind Misplaced = true
+pub found : {k j : RecordKind} {o x : Option RecordKind} → k ≡ j → o ≡ x → o ≡ Some k → Some j ≡ x
+found e f g = sym (ap Some e) ∙ sym g ∙ f
 
-module _ (m : FlowMasks) (pc : Masks) (opened : ℕ) (inner : Innermost) (place : ℕ) (r : Record) where
+pub none_found : {K : Type 0} {o : Option K} {d e : Refusal} → Err e ≡ ok_or o d → o ≡ None → e ≡ d
+none_found {K = K} {d = d} {e = e} f g = let h : ◌≡◌ {A = Result K Refusal} (Err e) (Err d) = f ∙ ap (λ x. ok_or x d) g in cc
+
+module _ (m : FlowMasks) (pc : Masks) (opened : ℕ) (inner : Option Innermost) (place : ℕ) (r : Record) where
   abbrev Stuck : Refusal → Type 0
   Stuck e = (rs : List Record) → Refused m pc opened inner place (r ∷ rs) e
 
@@ -87,10 +56,9 @@ module _ (m : FlowMasks) (pc : Masks) (opened : ℕ) (inner : Innermost) (place 
   letter : (k : Kind) → kind r.letter ≡ k → Letter k r.letter
   letter k e = subst (λ x. Letter x r.letter) e (letter_of_lem r.letter)
 
-  passed : (k : RecordKind) (kd : Kind) → k ≡ kind_at r.letter inner → kind r.letter ≡ kd → misplaced_kind k ≡ false → rest_zero r kd ≡ true → Named m r kd → Asks kd (λ C sh a. a) → Passed m pc opened inner place r k
-  passed k kd e q s z n f = record {
+  passed : (k : RecordKind) (kd : Kind) → Some k ≡ kind_at r.letter inner → kind r.letter ≡ kd → rest_zero r kd ≡ true → Named m r kd → Asks kd (λ C sh a. a) → Passed m pc opened inner place r k
+  passed k kd e q z n f = record {
     is = e;
-    stands = λ h. both_ways (misplaced_kind k) s (ap misplaced_kind h);
     rest = ap (rest_zero r) q ∙ z;
     named = subst (Named m r) (sym q) n;
     goes = λ C sh blocks commands A rs. f C sh blocks commands A rs ∙ ap (λ x. answer C sh (established (at place blocks (context_of pc) commands) r x) rs) (sym q);
@@ -101,9 +69,8 @@ module _ (m : FlowMasks) (pc : Masks) (opened : ℕ) (inner : Innermost) (place 
 
   -- a record that is asked its fields alone
   pub record Fielded (k : RecordKind) (kd : Kind) (F : List Rule) : Type 0 where
-    pub is : k ≡ kind_at r.letter inner
+    pub is : Some k ≡ kind_at r.letter inner
     pub same : kind r.letter ≡ kd
-    pub stands : misplaced_kind k ≡ false
     pub asks : Asks kd (λ C sh a. first F a)
     pub zero : AllHold F → rest_zero r kd ≡ true
     pub names : AllHold F → Named m r kd
@@ -114,13 +81,12 @@ module _ (m : FlowMasks) (pc : Masks) (opened : ℕ) (inner : Innermost) (place 
   pub fields_passed : {X : Type 0} {k : RecordKind} {kd : Kind} {F : List Rule} (x y : X) → Fielded k kd F → Ok y ≡ judged F x → Passed m pc opened inner place r k
   fields_passed {k = k} {kd = kd} {F = F} x y f h =
       let p = (judged_ok F x y h).1 in
-      passed k kd f.is f.same f.stands (f.zero p) (f.names p) (λ C sh blocks commands A rs. f.asks C sh blocks commands A rs ∙ first_holds F _ p)
+      passed k kd f.is f.same (f.zero p) (f.names p) (λ C sh blocks commands A rs. f.asks C sh blocks commands A rs ∙ first_holds F _ p)
 
   -- a record that is asked its fields, and then what reaches its target
   pub record Reaching (k : RecordKind) (kd : Kind) (F : List Rule) (x number : ℕ) (within : Masks) (inflow : ℕ → Inflow) : Type 0 where
-    pub is : k ≡ kind_at r.letter inner
+    pub is : Some k ≡ kind_at r.letter inner
     pub same : kind r.letter ≡ kd
-    pub stands : misplaced_kind k ≡ false
     pub context : Context
     pub target : Lattice → Sheet → Policy
     pub asks : Asks kd (λ C sh a. first F (first (each_within number place context (widest C sh (target C sh))) a))
@@ -153,7 +119,7 @@ module _ (m : FlowMasks) (pc : Masks) (opened : ℕ) (inner : Innermost) (place 
       pub reach_passed : ((a : Reading Command) → reached a ≡ a) → Passed m pc opened inner place r k
       reach_passed f =
           let p = (judged_ok F x t h).1 in
-          passed k kd R.is R.same R.stands (R.zero p) (R.names p) (λ C sh blocks commands A rs. reach_asks C sh blocks commands A rs ∙ f _)
+          passed k kd R.is R.same (R.zero p) (R.names p) (λ C sh blocks commands A rs. reach_asks C sh blocks commands A rs ∙ f _)
 
   -- ── each kind ──
 
@@ -166,13 +132,12 @@ module _ (m : FlowMasks) (pc : Masks) (opened : ℕ) (inner : Innermost) (place 
   place_of : (v : ℕ) → ltb v m.variables ≡ true → v < 64
   place_of v h = omega (arith, ltb-true v m.variables h, m.counts)
 
-  pub setting : Set ≡ kind_at r.letter inner → Reaching Set sets (set_fields r place m.variables) r.a 16 pc (λ t. (get_or m.variable t no_variable_flow).inflow)
+  pub setting : Some Set ≡ kind_at r.letter inner → Reaching Set sets (set_fields r place m.variables) r.a 16 pc (λ t. (get_or m.variable t no_variable_flow).inflow)
   setting h =
-      let q = kind_found Set r.letter inner h in
+      let q = kind_found (Some Set) r.letter inner h in
       record {
         is = h;
         same = q;
-        stands = refl;
         context = context_of pc;
         target = λ C sh. policy_of sh r.a;
         asks = λ C sh blocks commands A rs.
@@ -184,13 +149,12 @@ module _ (m : FlowMasks) (pc : Masks) (opened : ℕ) (inner : Innermost) (place 
         names = λ p. ltb-true r.a m.variables p.1.0;
       }
 
-  pub raising : Raise ≡ kind_at r.letter inner → Reaching Raise raises (raise_fields r place m.conditions) r.a 16 pc (λ t. get_or m.condition t no_inflow)
+  pub raising : Some Raise ≡ kind_at r.letter inner → Reaching Raise raises (raise_fields r place m.conditions) r.a 16 pc (λ t. get_or m.condition t no_inflow)
   raising h =
-      let q = kind_found Raise r.letter inner h in
+      let q = kind_found (Some Raise) r.letter inner h in
       record {
         is = h;
         same = q;
-        stands = refl;
         context = context_of pc;
         target = λ C sh. leaf (level_of sh r.a);
         asks = λ C sh blocks commands A rs.
@@ -202,20 +166,18 @@ module _ (m : FlowMasks) (pc : Masks) (opened : ℕ) (inner : Innermost) (place 
         names = λ p. ltb-true r.a m.conditions p.1.0;
       }
 
-  pub combining : (k : OneSign ≡ kind_at r.letter inner)
-      → Reaching OneSign (signs (kind_found OneSign r.letter inner k).0) (three_fields r place m.variables m.variables) r.a 16 (with_variable r.b (with_variable r.c pc)) (λ t. (get_or m.variable t no_variable_flow).inflow)
-  combining h =
-      let s = (kind_found OneSign r.letter inner h).0 in
-      let q = (kind_found OneSign r.letter inner h).1 in
+  pub combining : (s : KeptSign) → Some (OneSign s) ≡ kind_at r.letter inner
+      → Reaching (OneSign s) (signs (sign_of s)) (three_fields r place m.variables m.variables) r.a 16 (with_variable r.b (with_variable r.c pc)) (λ t. (get_or m.variable t no_variable_flow).inflow)
+  combining s h =
+      let q = kind_found (Some (OneSign s)) r.letter inner h in
       record {
         is = h;
         same = q;
-        stands = refl;
         context = under_variable r.b (under_variable r.c (context_of pc));
         target = λ C sh. policy_of sh r.a;
         asks = λ C sh blocks commands A rs.
-            steps.sign_step C sh place blocks (context_of pc) commands r rs s (letter (signs s) q)
-            ∙ ap (λ n. first (three_fields r place n n) (first (each_within 16 place (under_variable r.b (under_variable r.c (context_of pc))) (widest C sh (policy_of sh r.a))) (answer C sh (established (at place blocks (context_of pc) commands) r (signs s)) rs))) (sym A.masks.variables);
+            steps.sign_step C sh place blocks (context_of pc) commands r rs (sign_of s) (letter (signs (sign_of s)) q)
+            ∙ ap (λ n. first (three_fields r place n n) (first (each_within 16 place (under_variable r.b (under_variable r.c (context_of pc))) (widest C sh (policy_of sh r.a))) (answer C sh (established (at place blocks (context_of pc) commands) r (signs (sign_of s))) rs))) (sym A.masks.variables);
         masks = λ p.
             ap (under_variable r.b) (masked_variable r.c pc.variables pc.conditions (place_of r.c p.1.1.1.0))
             ∙ masked_variable r.b (with_variable r.c pc).variables pc.conditions (place_of r.b p.1.1.0);
@@ -230,13 +192,12 @@ module _ (m : FlowMasks) (pc : Masks) (opened : ℕ) (inner : Innermost) (place 
         names = λ p. (ltb-true r.a m.variables p.1.0, ltb-true r.b m.variables p.1.1.0, ltb-true r.c m.variables p.1.1.1.0);
       }
 
-  pub looping : While ≡ kind_at r.letter inner → Reaching While loops (variable_test_fields r place m.variables opened) r.b 17 (with_variable r.b pc) (λ t. m.lowest)
+  pub looping : Some While ≡ kind_at r.letter inner → Reaching While loops (variable_test_fields r place m.variables opened) r.b 17 (with_variable r.b pc) (λ t. m.lowest)
   looping h =
-      let q = kind_found While r.letter inner h in
+      let q = kind_found (Some While) r.letter inner h in
       record {
         is = h;
         same = q;
-        stands = refl;
         context = under_variable r.b (context_of pc);
         target = λ C sh. leaf C.lowest;
         asks = λ C sh blocks commands A rs.
@@ -249,13 +210,12 @@ module _ (m : FlowMasks) (pc : Masks) (opened : ℕ) (inner : Innermost) (place 
         names = λ p. ltb-true r.b m.variables p.1.0;
       }
 
-  pub testing_variable : VariableTest ≡ kind_at r.letter inner → Fielded VariableTest variable_tests (variable_test_fields r place m.variables opened)
+  pub testing_variable : Some VariableTest ≡ kind_at r.letter inner → Fielded VariableTest variable_tests (variable_test_fields r place m.variables opened)
   testing_variable h =
-      let q = kind_found VariableTest r.letter inner h in
+      let q = kind_found (Some VariableTest) r.letter inner h in
       record {
         is = h;
         same = q;
-        stands = refl;
         asks = λ C sh blocks commands A rs.
             steps.variable_test_step C sh place blocks (context_of pc) commands r rs (letter variable_tests q)
             ∙ (λ i. first (variable_test_fields r place (sym A.masks.variables i) (A.depth i)) (answer C sh (established (at place blocks (context_of pc) commands) r variable_tests) rs));
@@ -263,13 +223,12 @@ module _ (m : FlowMasks) (pc : Masks) (opened : ℕ) (inner : Innermost) (place 
         names = λ p. ltb-true r.b m.variables p.1.0;
       }
 
-  pub testing_condition : ConditionTest ≡ kind_at r.letter inner → Fielded ConditionTest condition_tests (condition_test_fields r place m.conditions opened)
+  pub testing_condition : Some ConditionTest ≡ kind_at r.letter inner → Fielded ConditionTest condition_tests (condition_test_fields r place m.conditions opened)
   testing_condition h =
-      let q = kind_found ConditionTest r.letter inner h in
+      let q = kind_found (Some ConditionTest) r.letter inner h in
       record {
         is = h;
         same = q;
-        stands = refl;
         asks = λ C sh blocks commands A rs.
             steps.condition_test_step C sh place blocks (context_of pc) commands r rs (letter condition_tests q)
             ∙ (λ i. first (condition_test_fields r place (sym A.masks.conditions i) (A.depth i)) (answer C sh (established (at place blocks (context_of pc) commands) r condition_tests) rs));
@@ -277,44 +236,42 @@ module _ (m : FlowMasks) (pc : Masks) (opened : ℕ) (inner : Innermost) (place 
         names = λ p. ltb-true r.a m.conditions p.1.0;
       }
 
-  pub misplaced : Misplaced ≡ kind_at r.letter inner → Stuck (refusal 12 place 0)
+  pub misplaced : None ≡ kind_at r.letter inner → Stuck (refusal 12 place 0)
   misplaced h rs = record {
     says = λ C sh blocks commands A.
-        steps.misplaced C sh place blocks (context_of pc) commands r rs (kind r.letter) refl (kind_found Misplaced r.letter inner h blocks A.innermost);
+        steps.misplaced C sh place blocks (context_of pc) commands r rs (kind r.letter) refl (kind_found None r.letter inner h blocks A.innermost);
   }
 
 module _ (m : FlowMasks) (pc : Masks) (opened : ℕ) (place : ℕ) (r : Record) where
-  else_mark : Mark ≡ kind_at r.letter First → Fielded m pc opened First place r Mark elses (mark_fields r place)
+  else_mark : Some Mark ≡ kind_at r.letter (Some First) → Fielded m pc opened (Some First) place r Mark elses (mark_fields r place)
   else_mark h =
-      let q = kind_found Mark r.letter First h in
+      let q = kind_found (Some Mark) r.letter (Some First) h in
       record {
         is = h;
         same = q;
-        stands = refl;
         asks = λ C sh blocks commands A rs. steps.step C sh place blocks (context_of pc) commands r rs elses q ∙ cond-true (may_stand blocks elses) _ _ (first_in_lem blocks ∙ ap first_in A.innermost);
         zero = λ p. p.0;
         names = λ p. tt;
       }
 
-  end_mark : (inner : Innermost) → Mark ≡ kind_at r.letter inner → kind r.letter ≡ ends → last_in inner ≡ true → Fielded m pc opened inner place r Mark ends (mark_fields r place)
+  end_mark : (inner : Option Innermost) → Some Mark ≡ kind_at r.letter inner → kind r.letter ≡ ends → last_in inner ≡ true → Fielded m pc opened inner place r Mark ends (mark_fields r place)
   end_mark inner h q l = record {
     is = h;
     same = q;
-    stands = refl;
     asks = λ C sh blocks commands A rs. steps.step C sh place blocks (context_of pc) commands r rs ends q ∙ cond-true (may_stand blocks ends) _ _ (last_in_lem blocks ∙ ap last_in A.innermost ∙ l);
     zero = λ p. p.0;
     names = λ p. tt;
   }
 
-  pub marking : (inner : Innermost) → Mark ≡ kind_at r.letter inner → (k : Kind) × Fielded m pc opened inner place r Mark k (mark_fields r place)
-  marking Outermost h = absurd (kind_found Mark r.letter Outermost h)
-  marking First h = (elses, else_mark h)
-  marking Second h = (ends, end_mark Second h (kind_found Mark r.letter Second h) refl)
-  marking Loop h = (ends, end_mark Loop h (kind_found Mark r.letter Loop h) refl)
+  pub marking : (inner : Option Innermost) → Some Mark ≡ kind_at r.letter inner → (k : Kind) × Fielded m pc opened inner place r Mark k (mark_fields r place)
+  marking None h = absurd (kind_found (Some Mark) r.letter None h)
+  marking (Some First) h = (elses, else_mark h)
+  marking (Some Second) h = (ends, end_mark (Some Second) h (kind_found (Some Mark) r.letter (Some Second) h) refl)
+  marking (Some Loop) h = (ends, end_mark (Some Loop) h (kind_found (Some Mark) r.letter (Some Loop) h) refl)
 
 -- ── a release ──
 
-module _ (m : FlowMasks) (pc : Masks) (opened : ℕ) (inner : Innermost) (place : ℕ) (r : Record) (h : Release ≡ kind_at r.letter inner) where
+module _ (m : FlowMasks) (pc : Masks) (opened : ℕ) (inner : Option Innermost) (place : ℕ) (r : Record) (h : Some Release ≡ kind_at r.letter inner) where
   abbrev threes : List Rule
   threes = three_fields r place m.variables m.permits
 
@@ -322,7 +279,7 @@ module _ (m : FlowMasks) (pc : Masks) (opened : ℕ) (inner : Innermost) (place 
   permit = get_or m.permit r.c no_permit
 
   q : kind r.letter ≡ releases
-  q = kind_found Release r.letter inner h
+  q = kind_found (Some Release) r.letter inner h
 
   release_asks : Asks m pc opened inner place r releases (λ C sh a. first threes
       (first (each_within 16 place (under_conditions (members (permit_at sh r.c).conditions) (context_of pc)) (widest C sh (policy_of sh r.a)))
@@ -371,6 +328,6 @@ module _ (m : FlowMasks) (pc : Masks) (opened : ℕ) (inner : Innermost) (place 
     pub release_passed : ((a : Reading Command) → reached_by a ≡ a) → Passed m pc opened inner place r Release
     release_passed f =
         let p = (judged_ok threes r.a t j).1 in
-        passed m pc opened inner place r Release releases h q refl p.0
+        passed m pc opened inner place r Release releases h q p.0
         (ltb-true r.a m.variables p.1.0, ltb-true r.b m.variables p.1.1.0, ltb-true r.c m.permits p.1.1.1.0)
         (λ C sh blocks commands A rs. release_reaches C sh blocks commands A rs ∙ f _)

@@ -3,7 +3,7 @@ use Rattle.std.specs.Prelude.{ℕ, ◌*◌, ◌%◌, ◌^◌, bit_or}
 use Rattle.records.specs.declared.Record.{Record}
 use Rattle.program.specs.declared.context.Context.{Context}
 use Rattle.program.specs.declared.innermost.RecordKind.{RecordKind}
-use Rattle.program.specs.declared.innermost.RecordKind.TheVariants.{Set, Sign, Release, Raise, VariableTest, ConditionTest, Loop, Mark, Misplaced}
+use Rattle.program.specs.declared.innermost.RecordKind.TheVariants.{Set, Sign, Release, Raise, VariableTest, ConditionTest, Loop, Mark}
 
 abbrev pub under_none : Context
 under_none = record { variables = 0; conditions = 0 }
@@ -19,8 +19,7 @@ inside_of VariableTest r pc = with_variable r.b pc
 inside_of ConditionTest r pc = with_conditions ((1 * 2 ^ r.a) % 2 ^ 16) pc
 inside_of Loop r pc = with_variable r.b pc
 inside_of Set r pc = pc
-inside_of Sign r pc = pc
+inside_of (Sign s) r pc = pc
 inside_of Release r pc = pc
 inside_of Raise r pc = pc
 inside_of Mark r pc = pc
-inside_of Misplaced r pc = pc

@@ -1,16 +1,30 @@
 -- An accepted program as it is kept, so that the interpreter jumps in one step: I and Q have the way to their J, J and W the way
 -- to their K, and the K of a loop has the way back and the loop's variable.
-use Rattle.std.specs.Prelude.{◌≡◌, ℕ, ◌+◌, ◌<◌, List, [], ◌∷◌, ◌++◌, take, pos}
-use Rattle.machine.specs.Command.{Command, skip, ◌⨾◌, set, combine, release, raise, if_variable, if_condition, while}
+use Rattle.std.specs.Prelude.{◌≡◌, ℕ, ◌+◌, ◌<◌, List, [], ◌∷◌, ◌++◌, take}
+use Rattle.machine.specs.Command.{Sign, plus, minus, times, less, equal, Command, skip, ◌⨾◌, set, combine, release, raise, if_variable, if_condition, while}
+use Rattle.program.specs.declared.kept.Sign.{Sign as KeptSign}
+use Rattle.program.specs.declared.kept.Sign.TheVariants.{Plus, Minus, Times, Less, Equal}
 use Rattle.program.specs.declared.kept.Instruction.{Instruction}
+use Rattle.program.specs.declared.kept.Instruction.TheVariants.{Set, Combine, Release, Raise, IfVariable, IfCondition, Jump, End, Loop, Again}
 use Rattle.program.specs.declared.kept.Program.{Program}
-use Rattle.program.specs.Written.{letter_of}
 
+abbrev pub sign_of : KeptSign → Sign
+sign_of Plus = plus
+sign_of Minus = minus
+sign_of Times = times
+sign_of Less = less
+sign_of Equal = equal
+
+abbrev pub kept_sign : Sign → KeptSign
+kept_sign plus = Plus
+kept_sign minus = Minus
+kept_sign times = Times
+kept_sign less = Less
+kept_sign equal = Equal
+
+-- what stands where no record is kept
 abbrev pub blank : Instruction
-blank = record { letter = 0; a = 0; b = 0; c = 0; n = pos 0 }
-
-abbrev pub instruction : ℕ → ℕ → ℕ → ℕ → Instruction
-instruction letter a b c = record { letter = letter; a = a; b = b; c = c; n = pos 0 }
+blank = End
 
 -- how many records a command writes
 abbrev pub size : Command → ℕ
@@ -27,13 +41,13 @@ size (while b c) = size c + 2
 abbrev pub linked : Command → List Instruction
 linked skip = []
 linked (c ⨾ d) = linked c ++ linked d
-linked (set a x) = record { letter = 83; a = a; b = 0; c = 0; n = x } ∷ []
-linked (combine s a b c) = instruction (letter_of s) a b c ∷ []
-linked (release a b p) = instruction 68 a b p ∷ []
-linked (raise c) = instruction 85 c 0 0 ∷ []
-linked (if_variable b c d) = instruction 73 0 b (size c + 1) ∷ (linked c ++ (instruction 74 0 0 (size d + 1) ∷ (linked d ++ (instruction 75 0 0 0 ∷ []))))
-linked (if_condition a c d) = instruction 81 a 0 (size c + 1) ∷ (linked c ++ (instruction 74 0 0 (size d + 1) ∷ (linked d ++ (instruction 75 0 0 0 ∷ []))))
-linked (while b c) = instruction 87 0 b (size c + 1) ∷ (linked c ++ (instruction 75 0 b (size c + 1) ∷ []))
+linked (set a x) = Set a x ∷ []
+linked (combine s a b c) = Combine (kept_sign s) a b c ∷ []
+linked (release a b p) = Release a b p ∷ []
+linked (raise c) = Raise c ∷ []
+linked (if_variable b c d) = IfVariable b (size c + 1) ∷ (linked c ++ (Jump (size d + 1) ∷ (linked d ++ (End ∷ []))))
+linked (if_condition a c d) = IfCondition a (size c + 1) ∷ (linked c ++ (Jump (size d + 1) ∷ (linked d ++ (End ∷ []))))
+linked (while b c) = Loop b (size c + 1) ∷ (linked c ++ (Again b (size c + 1) ∷ []))
 
 -- the variables written and the conditions raised have a place in the tables
 abbrev pub Placed : Command → Type 0

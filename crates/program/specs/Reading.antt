@@ -1,5 +1,5 @@
 -- What the checks of a record, a command and a block answer for: the rules refuse as they do, or go on after it.
-use Rattle.std.specs.Prelude.{◌≡◌, ℕ, ◌+◌, ◌<◌, true, ◌≢◌, List, [], ◌∷◌, ◌++◌, length, slice_index_or}
+use Rattle.std.specs.Prelude.{◌≡◌, ℕ, ◌+◌, ◌<◌, true, Some, None, Option, List, [], ◌∷◌, ◌++◌, length, slice_index_or}
 use Rattle.lattice.specs.Lattice.{Lattice, Lawful}
 use Rattle.records.specs.declared.Record.{Record}
 use Rattle.records.specs.declared.refusal.Refusal.{Refusal}
@@ -13,11 +13,12 @@ use Rattle.flow.specs.declared.masks.FlowMasks.{FlowMasks}
 use Rattle.flow.specs.Flows.{MasksOf}
 use Rattle.program.specs.declared.context.Context.{Context as Masks}
 use Rattle.program.specs.declared.innermost.Innermost.{Innermost}
-use Rattle.program.specs.declared.innermost.Innermost.TheVariants.{Outermost, First, Second, Loop}
 use Rattle.program.specs.declared.innermost.RecordKind.{RecordKind}
-use Rattle.program.specs.declared.innermost.RecordKind.TheVariants.{Mark, Misplaced}
+use Rattle.program.specs.declared.innermost.RecordKind.TheVariants.{Mark}
 use Rattle.program.specs.declared.kept.Instruction.{Instruction}
-use Rattle.program.specs.Kept.{blank, instruction, linked, Placed}
+use Rattle.program.specs.declared.kept.Instruction.TheVariants.{IfVariable, IfCondition}
+use Rattle.program.specs.Kept.{blank, linked, Placed}
+use Rattle.program.specs.Keeping.{kept_as}
 use Rattle.program.specs.Rules.{Test, on_variable, on_condition, tested, Block, then_block, at, Kind, kind, sets, signs, releases, raises, variable_tests, condition_tests, loops, elses, ends, others, rest_zero, established, answer}
 use Rattle.program.specs.Checks.{masked}
 use Rattle.program.specs.Letters.{innermost_of, kind_at}
@@ -32,7 +33,7 @@ pub record Declared (sh : Sheet) (pc : Masks) : Type 0 where
   pub conditions : (c : ℕ) → bit c pc.conditions ≡ true → HasCondition sh c
 
 -- where the rules and the checker stand alike: the masks are the sheet's, the context is declared, and so many blocks are open
-pub record Alike (C : Lattice) (sh : Sheet) (m : FlowMasks) (pc : Masks) (opened : ℕ) (inner : Innermost) (blocks : List Block) : Type 0 where
+pub record Alike (C : Lattice) (sh : Sheet) (m : FlowMasks) (pc : Masks) (opened : ℕ) (inner : Option Innermost) (blocks : List Block) : Type 0 where
   pub lawful : Lawful C
   pub usable : UsableSheet C sh
   pub masks : MasksOf C sh m
@@ -41,7 +42,7 @@ pub record Alike (C : Lattice) (sh : Sheet) (m : FlowMasks) (pc : Masks) (opened
   pub innermost : innermost_of blocks ≡ inner
 
 -- the rules refuse so, whatever else is open
-pub record Refused (m : FlowMasks) (pc : Masks) (opened : ℕ) (inner : Innermost) (place : ℕ) (rs : List Record) (e : Refusal) : Type 0 where
+pub record Refused (m : FlowMasks) (pc : Masks) (opened : ℕ) (inner : Option Innermost) (place : ℕ) (rs : List Record) (e : Refusal) : Type 0 where
   pub says : (C : Lattice) (sh : Sheet) (blocks : List Block) (commands : Command → Command) → Alike C sh m pc opened inner blocks
       → answer C sh (at place blocks (context_of pc) commands) rs ≡ refused e
 
@@ -59,9 +60,8 @@ Named m r ends = Unit {0}
 Named m r others = Unit {0}
 
 -- every rule that is asked of this record holds
-pub record Passed (m : FlowMasks) (pc : Masks) (opened : ℕ) (inner : Innermost) (place : ℕ) (r : Record) (k : RecordKind) : Type 0 where
-  pub is : k ≡ kind_at r.letter inner
-  pub stands : k ≢ Misplaced
+pub record Passed (m : FlowMasks) (pc : Masks) (opened : ℕ) (inner : Option Innermost) (place : ℕ) (r : Record) (k : RecordKind) : Type 0 where
+  pub is : Some k ≡ kind_at r.letter inner
   pub rest : rest_zero r (kind r.letter) ≡ true
   pub named : Named m r (kind r.letter)
   pub goes : (C : Lattice) (sh : Sheet) (blocks : List Block) (commands : Command → Command) → Alike C sh m pc opened inner blocks → (rs : List Record)
@@ -69,12 +69,12 @@ pub record Passed (m : FlowMasks) (pc : Masks) (opened : ℕ) (inner : Innermost
 
 -- the instruction of a test with the way to its J
 abbrev pub opening : Test → ℕ → Instruction
-opening (on_variable v) n = instruction 73 0 v n
-opening (on_condition c) n = instruction 81 c 0 n
+opening (on_variable v) n = IfVariable v n
+opening (on_condition c) n = IfCondition c n
 
 -- the record opens the two blocks of this test, which stand under that context
-pub record Branches (m : FlowMasks) (pc : Masks) (opened : ℕ) (inner : Innermost) (place : ℕ) (r : Record) (t : Test) (inside : Masks) : Type 0 where
-  pub opens : (n : ℕ) → opening t n ≡ instruction r.letter r.a r.b n
+pub record Branches (m : FlowMasks) (pc : Masks) (opened : ℕ) (inner : Option Innermost) (place : ℕ) (r : Record) (k : RecordKind) (t : Test) (inside : Masks) : Type 0 where
+  pub opens : (n : ℕ) → opening t n ≡ kept_as k r n
   pub under : tested t (context_of pc) ≡ context_of inside
   pub declared : (C : Lattice) (sh : Sheet) (blocks : List Block) → Alike C sh m pc opened inner blocks → Declared sh inside
   pub goes : (C : Lattice) (sh : Sheet) (blocks : List Block) (commands : Command → Command) → Alike C sh m pc opened inner blocks → (rs : List Record)
@@ -87,7 +87,7 @@ Stand xs place (y ∷ ys) = (slice_index_or xs place blank ≡ y) × Stand xs (p
 
 -- The records up to the next place are commands, before whatever follows: they are kept there, nothing before them is changed,
 -- and the rules go on after them.
-pub record Reads (m : FlowMasks) (pc : Masks) (opened : ℕ) (inner : Innermost) (place : ℕ) (rs : List Record) (before after : List Instruction) (next : ℕ) (left : List Record) : Type 0 where
+pub record Reads (m : FlowMasks) (pc : Masks) (opened : ℕ) (inner : Option Innermost) (place : ℕ) (rs : List Record) (before after : List Instruction) (next : ℕ) (left : List Record) : Type 0 where
   pub commands : Command → Command
   pub instructions : List Instruction
   pub placed : (c : Command) → Placed c → Placed (commands c)
@@ -99,21 +99,17 @@ pub record Reads (m : FlowMasks) (pc : Masks) (opened : ℕ) (inner : Innermost)
       → answer C sh (at place blocks (context_of pc) around) rs ≡ answer C sh (at next blocks (context_of pc) (λ c. around (commands c))) left
 
 -- a block ends at a mark that passes, and the outermost where no record is left
-abbrev pub Ends : FlowMasks → Masks → ℕ → Innermost → ℕ → List Record → List Record → Type 0
-Ends m pc opened Outermost place left rest = left ≡ []
-Ends m pc opened First place left rest = (r : Record) × (left ≡ r ∷ rest) × Passed m pc opened First place r Mark
-Ends m pc opened Second place left rest = (r : Record) × (left ≡ r ∷ rest) × Passed m pc opened Second place r Mark
-Ends m pc opened Loop place left rest = (r : Record) × (left ≡ r ∷ rest) × Passed m pc opened Loop place r Mark
+abbrev pub Ends : FlowMasks → Masks → ℕ → Option Innermost → ℕ → List Record → List Record → Type 0
+Ends m pc opened None place left rest = left ≡ []
+Ends m pc opened (Some i) place left rest = (r : Record) × (left ≡ r ∷ rest) × Passed m pc opened (Some i) place r Mark
 
 -- the records are commands up to the end of the block, and then the rest
-pub record BlockRead (m : FlowMasks) (pc : Masks) (opened : ℕ) (inner : Innermost) (place : ℕ) (rs : List Record) (before after : List Instruction) (next : ℕ) (rest : List Record) : Type 0 where
+pub record BlockRead (m : FlowMasks) (pc : Masks) (opened : ℕ) (inner : Option Innermost) (place : ℕ) (rs : List Record) (before after : List Instruction) (next : ℕ) (rest : List Record) : Type 0 where
   pub left : List Record
   pub reads : Reads m pc opened inner place rs before after next left
   pub ends : Ends m pc opened inner next left rest
 
 -- how many bytes the end of a block fills
-abbrev pub end_bytes : Innermost → ℕ
-end_bytes Outermost = 0
-end_bytes First = 8
-end_bytes Second = 8
-end_bytes Loop = 8
+abbrev pub end_bytes : Option Innermost → ℕ
+end_bytes None = 0
+end_bytes (Some i) = 8

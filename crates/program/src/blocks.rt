@@ -1,5 +1,5 @@
 // Blocks and their commands, checked and kept in one pass.
-ghost use Rattle.std.specs.Prelude.{◌≡◌, ℕ, ◌+◌, ◌*◌, ◌<◌, ◌≤◌, ◌≢◌, ◌∷◌, length, IfOk, MatchResult};
+ghost use Rattle.std.specs.Prelude.{◌≡◌, ℕ, Option, ◌+◌, ◌*◌, ◌<◌, ◌≤◌, ◌≢◌, ◌∷◌, length, IfOk, MatchResult};
 ghost use Rattle.records.specs.Records.{records};
 ghost use Rattle.program.specs.declared.innermost.Innermost.{Innermost as AnyInnermost};
 ghost use Rattle.program.specs.declared.innermost.RecordKind.TheVariants.{Loop as While, Mark};
@@ -23,7 +23,7 @@ pub(crate) fn check_block<'a>(
     bytes: &'a [u8],
     place: usize,
     opened: usize,
-    innermost: Innermost,
+    innermost: Option<Innermost>,
     inside: Context,
     context: &mut Context,
     instructions: &mut [Instruction; 256],
@@ -60,8 +60,8 @@ pub(crate) fn check_block<'a>(
         }
     }
     match innermost {
-        Innermost::Outermost => Ok((at, left)),
-        _ => Err(Rule::ProgramLetter.at(at, 0)),
+        None => Ok((at, left)),
+        Some(_) => Err(Rule::ProgramLetter.at(at, 0)),
     }
 }
 
@@ -91,7 +91,7 @@ fn check_command<'a>(
     requires { (8 * (place + 1) + length bytes.now ≤ 2048) × (opened ≤ place) }
     ensures restored { context.new ≡ context.old }
     ensures forward { IfOk result (λ p. (8 * p.0 + length p.1.now ≡ 8 * (place + 1) + length bytes.now) × (place < p.0)) }
-    ensures answer { (inner : AnyInnermost) → Passed masks.now context.old opened inner place first kind → kind ≢ Mark → MatchResult result
+    ensures answer { (inner : Option AnyInnermost) → Passed masks.now context.old opened inner place first kind → kind ≢ Mark → MatchResult result
         (λ p. Reads masks.now context.old opened inner place (first ∷ records bytes.now) instructions.old instructions.new p.0 (records p.1.now))
         (λ e. Refused masks.now context.old opened inner place (first ∷ records bytes.now) e) }
 {
@@ -99,6 +99,7 @@ fn check_command<'a>(
     match kind {
         RecordKind::VariableTest | RecordKind::ConditionTest => check_branch(
             masks,
+            kind,
             first,
             bytes,
             place,
@@ -118,7 +119,7 @@ fn check_command<'a>(
             instructions,
         ),
         _ => {
-            instructions[place] = Instruction::plain(first);
+            instructions[place] = Instruction::of(kind, first, 0);
             Ok((place + 1, bytes))
         }
     }
@@ -128,6 +129,7 @@ fn check_command<'a>(
 #[cycle(check_block_check_branch_check_command_check_loop)]
 fn check_branch<'a>(
     masks: &FlowMasks,
+    kind: RecordKind,
     first: Record,
     bytes: &'a [u8],
     place: usize,
@@ -139,7 +141,7 @@ fn check_branch<'a>(
     requires { (8 * (place + 1) + length bytes.now ≤ 2048) × (opened ≤ place) }
     ensures restored { context.new ≡ context.old }
     ensures forward { IfOk result (λ p. (8 * p.0 + length p.1.now ≡ 8 * (place + 1) + length bytes.now) × (place < p.0)) }
-    ensures answer { (inner : AnyInnermost) (t : Test) → Branches masks.now context.old opened inner place first t inside → MatchResult result
+    ensures answer { (inner : Option AnyInnermost) (t : Test) → Branches masks.now context.old opened inner place first kind t inside → MatchResult result
         (λ p. Reads masks.now context.old opened inner place (first ∷ records bytes.now) instructions.old instructions.new p.0 (records p.1.now))
         (λ e. Refused masks.now context.old opened inner place (first ∷ records bytes.now) e) }
 {
@@ -148,7 +150,7 @@ fn check_branch<'a>(
         bytes,
         place + 1,
         opened + 1,
-        Innermost::First,
+        Some(Innermost::First),
         inside,
         context,
         instructions,
@@ -160,14 +162,16 @@ fn check_branch<'a>(
         second,
         middle + 1,
         opened + 1,
-        Innermost::Second,
+        Some(Innermost::Second),
         again,
         context,
         instructions,
     )?;
-    instructions[place] = Instruction::jump(first.letter, first.a, first.b, (middle - place) as u8);
-    instructions[middle] = Instruction::jump(b'J', 0, 0, (end - middle) as u8);
-    instructions[end] = Instruction::jump(b'K', 0, 0, 0);
+    instructions[place] = Instruction::of(kind, first, (middle - place) as u8);
+    instructions[middle] = Instruction::Jump {
+        way: (end - middle) as u8,
+    };
+    instructions[end] = Instruction::End;
     Ok((end + 1, rest))
 }
 
@@ -186,7 +190,7 @@ fn check_loop<'a>(
     requires { (8 * (place + 1) + length bytes.now ≤ 2048) × (opened ≤ place) }
     ensures restored { context.new ≡ context.old }
     ensures forward { IfOk result (λ p. (8 * p.0 + length p.1.now ≡ 8 * (place + 1) + length bytes.now) × (place < p.0)) }
-    ensures answer { (inner : AnyInnermost) → Passed masks.now context.old opened inner place first While → inside ≡ with_variable first.b context.old → MatchResult result
+    ensures answer { (inner : Option AnyInnermost) → Passed masks.now context.old opened inner place first While → inside ≡ with_variable first.b context.old → MatchResult result
         (λ p. Reads masks.now context.old opened inner place (first ∷ records bytes.now) instructions.old instructions.new p.0 (records p.1.now))
         (λ e. Refused masks.now context.old opened inner place (first ∷ records bytes.now) e) }
 {
@@ -195,13 +199,14 @@ fn check_loop<'a>(
         bytes,
         place + 1,
         opened + 1,
-        Innermost::Loop,
+        Some(Innermost::Loop),
         inside,
         context,
         instructions,
     )?;
     let way = (end - place) as u8;
-    instructions[place] = Instruction::jump(b'W', 0, first.b, way);
-    instructions[end] = Instruction::jump(b'K', 0, first.b, way);
+    let variable = first.b;
+    instructions[place] = Instruction::Loop { variable, way };
+    instructions[end] = Instruction::Again { variable, way };
     Ok((end + 1, rest))
 }

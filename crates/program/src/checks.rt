@@ -17,6 +17,7 @@ use crate::innermost::{Innermost, RecordKind};
 use crate::letters::kind_at;
 use crate::reach::check_reach;
 use flow::{FlowMasks, Inflow, PermitFlow};
+use policy::has;
 use records::{Record, Refusal, Rule};
 
 // What a release reaches: its target under the permit's conditions too, and by the permit; and its source.
@@ -27,7 +28,6 @@ fn check_release(
     permit: PermitFlow,
     inflow: Inflow,
 ) -> Result<(), Refusal>
-    requires { (first.a < 64) × (first.b < 64) }
     ensures { MatchResult result
         (λ _. (a : Reading Command) → first_failing (each_within 16 place (context_of (with_conditions permit.conditions context)) (masked inflow.variables inflow.conditions))
         (first_failing (asked 16 place (512 + first.c) (bit first.a permit.targets) ∷ asked 18 place 0 (bit first.b permit.sources) ∷ []) a) ≡ a)
@@ -40,10 +40,10 @@ fn check_release(
         context.with_conditions(permit.conditions),
         inflow,
     )?;
-    if (permit.targets >> first.a) & 1 != 1 {
+    if !has(permit.targets, first.a) {
         return Err(Rule::Reaching.at(place, 512 + first.c as u32));
     }
-    if (permit.sources >> first.b) & 1 != 1 {
+    if !has(permit.sources, first.b) {
         return Err(Rule::Released.at(place, 0));
     }
     Ok(())
@@ -55,22 +55,21 @@ pub(crate) fn check_record(
     first: Record,
     place: usize,
     opened: usize,
-    innermost: Innermost,
+    innermost: Option<Innermost>,
     context: Context,
 ) -> Result<RecordKind, Refusal>
-    requires { opened < 4096 }
     ensures { MatchResult result
         (λ k. Passed masks.now context opened innermost place first k)
         (λ e. (rs : List AnyRecord) → Refused masks.now context opened innermost place (first ∷ rs) e) }
 {
-    let kind = kind_at(first.letter, innermost);
+    let kind = kind_at(first.letter, innermost).ok_or(Rule::ProgramLetter.at(place, 0))?;
     match kind {
         RecordKind::Set => {
             let target = check_set(first, place, masks.variables)?;
             let inflow = masks.variable[target as usize].inflow;
             check_reach(Rule::Reaching, place, context, inflow)?;
         }
-        RecordKind::Sign => {
+        RecordKind::Sign(_) => {
             let target = check_three(first, place, masks.variables, masks.variables)?;
             let reading = context.with_variable(first.c).with_variable(first.b);
             let inflow = masks.variable[target as usize].inflow;
@@ -99,7 +98,6 @@ pub(crate) fn check_record(
             check_reach(Rule::LoopLowest, place, inside, masks.lowest)?;
         }
         RecordKind::Mark => check_mark(first, place)?,
-        RecordKind::Misplaced => return Err(Rule::ProgramLetter.at(place, 0)),
     }
     Ok(kind)
 }

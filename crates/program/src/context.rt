@@ -1,9 +1,11 @@
 // The program-counter context as masks, and the guard that puts it back.
-ghost use Rattle.std.specs.Prelude.{◌≡◌, ◌*◌, ◌%◌, ◌^◌};
-ghost use Rattle.program.specs.Contexts.{under_none, with_variable, with_conditions};
+ghost use Rattle.std.specs.Prelude.{◌≡◌};
+ghost use Rattle.program.specs.Contexts.{with_variable, with_conditions};
+
+use policy::mask_of;
 
 // The variables and the conditions whose tests a command stands under.
-#[derive(Clone, Copy)]
+#[derive(Clone, Copy, Default)]
 pub(crate) struct Context {
     pub(crate) variables: u64,
     pub(crate) conditions: u16,
@@ -27,30 +29,13 @@ impl Drop for Guard<'_> {
     }
 }
 
-// The mask of one variable; of one that no mask has room for, the empty mask.
-fn variable_bit(variable: u8) -> u64
-    ensures { result ≡ (1 * 2 ^ variable) % 2 ^ 64 }
-{
-    if variable < 64 { 1 << variable } else { 0 }
-}
-
 impl Context {
-    // The context under no test.
-    pub(crate) fn outermost() -> Context
-        ensures { result ≡ under_none }
-    {
-        Context {
-            variables: 0,
-            conditions: 0,
-        }
-    }
-
     // The context with one more variable.
     pub(crate) fn with_variable(self, variable: u8) -> Context
         ensures { result ≡ with_variable variable self }
     {
         Context {
-            variables: self.variables | variable_bit(variable),
+            variables: self.variables | mask_of(variable),
             conditions: self.conditions,
         }
     }

@@ -1,21 +1,45 @@
 // The fields of a record: those that are not named are zero, and what is named is declared.
-ghost use Rattle.std.specs.Prelude.{◌≡◌, ◌<◌};
-ghost use Rattle.records.specs.Rules.{judged};
+ghost use Rattle.std.specs.Prelude.{◌≡◌, ◌+◌, [], ◌∷◌, nat_le, nat_lt};
+ghost use Rattle.records.specs.Rules.{judged, rule as asked};
 ghost use Rattle.program.specs.Checks.{set_fields, three_fields, raise_fields, variable_test_fields, condition_test_fields, mark_fields};
 
 use records::{Record, Refusal, Rule};
+
+// What is named, if so many are declared.
+fn declared(name: u8, count: usize, place: usize) -> Result<u8, Refusal>
+    ensures { result ≡ judged (asked 14 place name (nat_lt name count) ∷ []) name }
+{
+    if name as usize >= count {
+        return Err(Rule::Declared.at(place, name as u32));
+    }
+    Ok(name)
+}
+
+// The same, if the other fields are zero.
+fn only(rest_zero: bool, name: u8, count: usize, place: usize) -> Result<u8, Refusal>
+    ensures { result ≡ judged (asked 13 place 0 rest_zero ∷ asked 14 place name (nat_lt name count) ∷ []) name }
+{
+    if !rest_zero {
+        return Err(Rule::ProgramFields.at(place, 0));
+    }
+    declared(name, count, place)
+}
+
+// One more block may open than are open.
+fn one_more(opened: usize, place: usize) -> Result<(), Refusal>
+    ensures { result ≡ judged (asked 15 place 0 (nat_le (opened + 1) 8) ∷ []) tt }
+{
+    if opened >= 8 {
+        return Err(Rule::Nesting.at(place, 0));
+    }
+    Ok(())
+}
 
 // S: its target.
 pub(crate) fn check_set(first: Record, place: usize, variables: usize) -> Result<u8, Refusal>
     ensures { result ≡ judged (set_fields first place variables) first.a }
 {
-    if first.b != 0 || first.c != 0 {
-        return Err(Rule::ProgramFields.at(place, 0));
-    }
-    if first.a as usize >= variables {
-        return Err(Rule::Declared.at(place, first.a as u32));
-    }
-    Ok(first.a)
+    only(first.b == 0 && first.c == 0, first.a, variables, place)
 }
 
 // A sign or D: its target. The third thing named is a variable or a permit.
@@ -27,32 +51,22 @@ pub(crate) fn check_three(
 ) -> Result<u8, Refusal>
     ensures { result ≡ judged (three_fields first place variables thirds) first.a }
 {
-    if first.n != 0 {
-        return Err(Rule::ProgramFields.at(place, 0));
-    }
-    if first.a as usize >= variables {
-        return Err(Rule::Declared.at(place, first.a as u32));
-    }
-    if first.b as usize >= variables {
-        return Err(Rule::Declared.at(place, first.b as u32));
-    }
-    if first.c as usize >= thirds {
-        return Err(Rule::Declared.at(place, first.c as u32));
-    }
-    Ok(first.a)
+    let target = only(first.n == 0, first.a, variables, place)?;
+    declared(first.b, variables, place)?;
+    declared(first.c, thirds, place)?;
+    Ok(target)
 }
 
 // U: its condition.
 pub(crate) fn check_raise(first: Record, place: usize, conditions: usize) -> Result<u8, Refusal>
     ensures { result ≡ judged (raise_fields first place conditions) first.a }
 {
-    if first.b != 0 || first.c != 0 || first.n != 0 {
-        return Err(Rule::ProgramFields.at(place, 0));
-    }
-    if first.a as usize >= conditions {
-        return Err(Rule::Declared.at(place, first.a as u32));
-    }
-    Ok(first.a)
+    only(
+        first.b == 0 && first.c == 0 && first.n == 0,
+        first.a,
+        conditions,
+        place,
+    )
 }
 
 // I or W, with so many blocks open: the variable tested.
@@ -62,41 +76,30 @@ pub(crate) fn check_variable_test(
     variables: usize,
     opened: usize,
 ) -> Result<u8, Refusal>
-    requires { opened < 4096 }
     ensures { result ≡ judged (variable_test_fields first place variables opened) first.b }
 {
-    if first.a != 0 || first.c != 0 || first.n != 0 {
-        return Err(Rule::ProgramFields.at(place, 0));
-    }
-    if first.b as usize >= variables {
-        return Err(Rule::Declared.at(place, first.b as u32));
-    }
-    if opened + 1 > 8 {
-        return Err(Rule::Nesting.at(place, 0));
-    }
-    Ok(first.b)
+    let variable = only(
+        first.a == 0 && first.c == 0 && first.n == 0,
+        first.b,
+        variables,
+        place,
+    )?;
+    one_more(opened, place)?;
+    Ok(variable)
 }
 
-// Q, with so many blocks open: the condition tested.
+// Q, with so many blocks open: the condition tested, which stands where a U has its condition.
 pub(crate) fn check_condition_test(
     first: Record,
     place: usize,
     conditions: usize,
     opened: usize,
 ) -> Result<u8, Refusal>
-    requires { opened < 4096 }
     ensures { result ≡ judged (condition_test_fields first place conditions opened) first.a }
 {
-    if first.b != 0 || first.c != 0 || first.n != 0 {
-        return Err(Rule::ProgramFields.at(place, 0));
-    }
-    if first.a as usize >= conditions {
-        return Err(Rule::Declared.at(place, first.a as u32));
-    }
-    if opened + 1 > 8 {
-        return Err(Rule::Nesting.at(place, 0));
-    }
-    Ok(first.a)
+    let condition = check_raise(first, place, conditions)?;
+    one_more(opened, place)?;
+    Ok(condition)
 }
 
 // J or K, which names nothing.

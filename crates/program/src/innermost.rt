@@ -1,24 +1,23 @@
 // Where the checker stands in a program, and what a record can be there.
+use crate::kept::Sign;
 
-// The innermost open block: none, the first or the second of a test, or a loop's.
+// The innermost open block: the first or the second of a test, or a loop's.
 #[derive(Clone, Copy, PartialEq)]
 pub(crate) enum Innermost {
-    Outermost,
     First,
     Second,
     Loop,
 }
 
-// What a record is, or that its letter may not stand where it stands. A mark ends the innermost block.
+// What a record is. A mark ends the innermost block.
 #[derive(Clone, Copy, PartialEq)]
 pub(crate) enum RecordKind {
     Set,
-    Sign,
+    Sign(Sign),
     Release,
     Raise,
     VariableTest,
     ConditionTest,
     Loop,
     Mark,
-    Misplaced,
 }

@@ -1,48 +1,46 @@
 // How records are kept.
 ghost use Rattle.std.specs.Prelude.{◌≡◌};
-ghost use Rattle.program.specs.Kept.{blank, instruction};
-ghost use Rattle.program.specs.Keeping.{as_written};
+ghost use Rattle.program.specs.Keeping.{kept_as};
 
+use crate::innermost::RecordKind;
 use crate::kept::Instruction;
 use records::Record;
 
 impl Instruction {
-    // What stands in a place that no record has taken.
-    pub(crate) fn blank() -> Instruction
-        ensures { result ≡ blank }
+    // What a record of this kind does, jumping so far where it opens a block.
+    pub(crate) fn of(kind: RecordKind, first: Record, way: u8) -> Instruction
+        ensures { result ≡ kept_as kind first way }
     {
-        Instruction {
-            letter: 0,
-            a: 0,
-            b: 0,
-            c: 0,
-            n: 0,
-        }
-    }
-
-    // A record without a jump, as it is written.
-    pub(crate) fn plain(first: Record) -> Instruction
-        ensures { result ≡ as_written first }
-    {
-        Instruction {
-            letter: first.letter,
-            a: first.a,
-            b: first.b,
-            c: first.c,
-            n: first.n.cast_signed(),
-        }
-    }
-
-    // A test or a mark, with the way that it jumps.
-    pub(crate) fn jump(letter: u8, a: u8, b: u8, way: u8) -> Instruction
-        ensures { result ≡ instruction letter a b way }
-    {
-        Instruction {
-            letter,
-            a,
-            b,
-            c: way,
-            n: 0,
+        match kind {
+            RecordKind::Set => Instruction::Set {
+                target: first.a,
+                value: first.n.cast_signed(),
+            },
+            RecordKind::Sign(sign) => Instruction::Combine {
+                sign,
+                target: first.a,
+                left: first.b,
+                right: first.c,
+            },
+            RecordKind::Release => Instruction::Release {
+                target: first.a,
+                source: first.b,
+                permit: first.c,
+            },
+            RecordKind::Raise => Instruction::Raise { condition: first.a },
+            RecordKind::VariableTest => Instruction::IfVariable {
+                variable: first.b,
+                way,
+            },
+            RecordKind::ConditionTest => Instruction::IfCondition {
+                condition: first.a,
+                way,
+            },
+            RecordKind::Loop => Instruction::Loop {
+                variable: first.b,
+                way,
+            },
+            RecordKind::Mark => Instruction::End,
         }
     }
 }

@@ -1,15 +1,63 @@
-// An accepted program as it is kept: its records, with the distance of each jump noted in a field that the format leaves zero.
+// An accepted program as it is kept: its records, with the distance of each jump beside what they name.
 ghost use Rattle.std.specs.Prelude.{◌≡◌, ◌≤◌, length};
 
-/// A record of a kept program. In I, Q, J and W, `c` is the distance forward to the J or K that ends the block; in the K of a W,
-/// `c` is the distance back to its first command and `b` the variable that the loop tests.
-#[derive(Clone, Copy)]
-pub struct Instruction {
-    pub letter: u8,
-    pub a: u8,
-    pub b: u8,
-    pub c: u8,
-    pub n: i32,
+/// How two values are combined.
+#[derive(Clone, Copy, Debug, PartialEq, Eq)]
+pub enum Sign {
+    Plus,
+    Minus,
+    Times,
+    Less,
+    Equal,
+}
+
+/// What the program does at one place, and how far it jumps.
+#[derive(Clone, Copy, Debug, PartialEq, Eq)]
+pub enum Instruction {
+    Set {
+        target: u8,
+        value: i32,
+    },
+    Combine {
+        sign: Sign,
+        target: u8,
+        left: u8,
+        right: u8,
+    },
+    Release {
+        target: u8,
+        source: u8,
+        permit: u8,
+    },
+    Raise {
+        condition: u8,
+    },
+    /// Goes on behind the J, `way` places on, where the variable is zero.
+    IfVariable {
+        variable: u8,
+        way: u8,
+    },
+    /// Goes on behind the J, `way` places on, where the condition has not come up.
+    IfCondition {
+        condition: u8,
+        way: u8,
+    },
+    /// A J: to the K of its test.
+    Jump {
+        way: u8,
+    },
+    /// The K of a test; also what stands where no record is kept.
+    End,
+    /// Goes on behind the K, `way` places on, where the variable is zero.
+    Loop {
+        variable: u8,
+        way: u8,
+    },
+    /// The K of a loop, `way` places behind its W.
+    Again {
+        variable: u8,
+        way: u8,
+    },
 }
 
 /// A kept program: its first `count` instructions.

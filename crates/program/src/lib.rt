@@ -13,6 +13,6 @@ mod reach;
 mod read;
 mod rules;
 
-pub use kept::{Instruction, Program};
+pub use kept::{Instruction, Program, Sign};
 pub use read::{PROGRAM_BYTES, read_program};
 pub use rules::{program_examples_hold, programs_are_accepted_exactly, readers_are_sound};

@@ -4,7 +4,6 @@ ghost use Rattle.program.specs.Loading.{ProgramRead, ProgramRefused};
 
 use crate::blocks::check_block;
 use crate::context::Context;
-use crate::innermost::Innermost;
 use crate::kept::{Instruction, Program};
 use flow::FlowMasks;
 use records::{Refusal, Rule};
@@ -21,15 +20,15 @@ pub fn read_program(masks: &FlowMasks, bytes: &[u8]) -> Result<Program, Refusal>
     if bytes.len() % 8 != 0 || bytes.len() > PROGRAM_BYTES {
         return Err(Rule::ProgramLength.at(0, 0));
     }
-    let mut instructions = [Instruction::blank(); 256];
-    let mut context = Context::outermost();
+    let mut instructions = [Instruction::End; 256];
+    let mut context = Context::default();
     let inside = context;
     let (count, _rest) = check_block(
         masks,
         bytes,
         0,
         0,
-        Innermost::Outermost,
+        None,
         inside,
         &mut context,
         &mut instructions,

@@ -59,14 +59,14 @@ check_block-loop-first-preserved t c =
           (steps.reads_under _ _ _ i.3 (c.in_ok-next-in_default-2.ensures.answer c.args.innermost c.in_ok-kind.ensures c.in_default-2.not-Mark))),
     )
 
-pub check_block-returns-in-Outermost : goal.check_block-returns-in-Outermost
-check_block-returns-in-Outermost t c =
+pub check_block-returns-in-None : goal.check_block-returns-in-None
+check_block-returns-in-None t c =
     let i = c.loop-first.invariant in
-    let b : end_bytes c.args.innermost ≡ 0 = ap end_bytes c.in-Outermost.is in
+    let b : end_bytes c.args.innermost ≡ 0 = ap end_bytes c.in-None.is in
     record {
       restored = search rules;
       forward = (omega (arith, i.0, b), i.1, λ z. c.in_default.ensures);
-      answer = record { left = records c.loop-first.left.now; reads = i.4; ends = steps.ends_outermost _ _ _ c.args.innermost _ _ _ c.in-Outermost.is (records_short c.loop-first.left.now c.in_default.ensures) };
+      answer = record { left = records c.loop-first.left.now; reads = i.4; ends = steps.ends_outermost _ _ _ c.args.innermost _ _ _ c.in-None.is (records_short c.loop-first.left.now c.in_default.ensures) };
     }
 
 pub check_block-returns : goal.check_block-returns
@@ -76,7 +76,7 @@ check_block-returns t c =
       restored = search rules;
       forward = tt;
       answer = rw c.at.ensures
-          (steps.refused_after _ _ _ _ i.4 (steps.refused_as _ _ _ _ (records_short c.loop-first.left.now c.in_default.ensures) (steps.left_open _ _ _ c.args.innermost _ c.in_default-innermost.not-Outermost)));
+          (steps.refused_after _ _ _ _ i.4 (steps.refused_as _ _ _ _ (records_short c.loop-first.left.now c.in_default.ensures) (steps.left_open _ _ _ c.args.innermost _ c.in-Some-innermost.is)));
     }
 
 pub check_branch-returns-in_err-middle : goal.check_branch-returns-in_err-middle
@@ -85,7 +85,7 @@ check_branch-returns-in_err-middle t c = record {
   forward = IfOk-from_err _ _ c.from_residual.ensures.0;
   answer = λ inner test T.
       let p = err_from_is_err_and c.from_residual.result c.from_residual.ensures.1 in
-      rw (p.1, p.2) (steps.first_refused _ _ _ inner _ c.args.first _ test _ T _ c.in_err-middle.ensures.answer);
+      rw (p.1, p.2) (steps.first_refused _ _ _ inner _ c.args.first _ c.args.kind test _ T _ c.in_err-middle.ensures.answer);
 }
 
 pub check_branch-returns-in_err-end : goal.check_branch-returns-in_err-end
@@ -94,7 +94,7 @@ check_branch-returns-in_err-end t c = record {
   forward = IfOk-from_err _ _ c.from_residual-in_err-end.ensures.0;
   answer = λ inner test T.
       let p = err_from_is_err_and c.from_residual-in_err-end.result c.from_residual-in_err-end.ensures.1 in
-      rw (p.1, p.2) (steps.second_refused _ _ _ inner _ c.args.first _ test _ T _ _ _ _ c.in_ok-middle.ensures.answer _ c.in_err-end.ensures.answer);
+      rw (p.1, p.2) (steps.second_refused _ _ _ inner _ c.args.first _ c.args.kind test _ T _ _ _ _ c.in_ok-middle.ensures.answer _ c.in_err-end.ensures.answer);
 }
 
 pub check_branch-returns : goal.check_branch-returns
@@ -106,7 +106,7 @@ check_branch-returns t c =
       restored = c.check_block-2.ensures.restored ∙ c.check_block.ensures.restored;
       forward = (omega (arith, f.0, g.0), omega (arith, f.1, g.1));
       answer = λ inner test T.
-          steps.branch_reads _ _ _ inner _ c.args.first _ test _ T _ _ _ _ c.in_ok-middle.ensures.answer _ _ _ c.in_ok-end.ensures.answer _ _ _ l c.jump.ensures c.jump-2.ensures c.jump-3.ensures;
+          steps.branch_reads _ _ _ inner _ c.args.first _ c.args.kind test _ T _ _ _ _ c.in_ok-middle.ensures.answer _ _ _ c.in_ok-end.ensures.answer _ _ _ l c.of.ensures refl refl;
     }
 
 pub check_command-returns-in-VariableTest : goal.check_command-returns-in-VariableTest
@@ -133,7 +133,7 @@ check_command-returns-in_default t c =
       restored = refl;
       forward = (refl, omega arith);
       answer = λ inner h n.
-          steps.plain_reads _ _ _ inner _ c.args.first _ _ l c.args.kind _ c.plain.ensures h c.in_default.not-VariableTest c.in_default.not-ConditionTest c.in_default.not-Loop n;
+          steps.plain_reads _ _ _ inner _ c.args.first _ _ l c.args.kind _ c.of.ensures h c.in_default.not-VariableTest c.in_default.not-ConditionTest c.in_default.not-Loop n;
     }
 
 pub check_loop-returns-in_err-end : goal.check_loop-returns-in_err-end
@@ -153,5 +153,5 @@ check_loop-returns t c =
       restored = c.check_block.ensures.restored;
       forward = (omega (arith, f.0), omega (arith, f.1));
       answer = λ inner h e.
-          steps.loop_reads _ _ _ inner _ c.args.first _ _ h e _ _ _ _ c.in_ok-end.ensures.answer _ _ l c.jump.ensures c.jump-2.ensures;
+          steps.loop_reads _ _ _ inner _ c.args.first _ _ h e _ _ _ _ c.in_ok-end.ensures.answer _ _ l refl refl;
     }

@@ -14,11 +14,11 @@ returns-in_err-count c =
     let m : length c.args.bytes.now % 8 ≡ 0 = search rules in
     let l : length c.args.bytes.now ≤ 2048 = search rules in
     let p = err_from_is_err_and c.from_residual.result c.from_residual.ensures.1 in
-    rw (p.1, p.2) (program_refused c.args.masks.now c.args.bytes.now m l _ c.outermost-context.ensures _ c.in_err-count.ensures.answer)
+    rw (p.1, p.2) (program_refused c.args.masks.now c.args.bytes.now m l _ c.default-context.ensures _ c.in_err-count.ensures.answer)
 
 pub returns : goal.returns
 returns c =
     let m : length c.args.bytes.now % 8 ≡ 0 = search rules in
     let l : length c.args.bytes.now ≤ 2048 = search rules in
     let f = c.in_ok-count.ensures.forward in
-    program_read c.args.masks.now c.args.bytes.now m l _ c.outermost-context.ensures _ _ c.in_ok-count._rest.now c.in_ok-count.ensures.answer f.0 (f.2 refl)
+    program_read c.args.masks.now c.args.bytes.now m l _ c.default-context.ensures _ _ c.in_ok-count._rest.now c.in_ok-count.ensures.answer f.0 (f.2 refl)

@@ -2,7 +2,7 @@ use Rattle.std.proofs.Common.{◌≡◌, ◌<◌, eqb, ℤ, pos, negsuc, refl, a
 use lib.Signed.{mag}
 use Rattle.std.proofs.lemmas.Bool.{ne_eqb}
 use Rattle.machine.specs.Run.{is_zero}
-use Rattle.interpreter.proofs.interpret.is_zero.Goals as goal
+use Rattle.interpreter.proofs.memory.Memory.is_zero.Goals as goal
 
 zero : (z : ℤ) → mag z < 2147483648 → eqb (of_z w32 z) 0 ≡ is_zero z
 zero (pos n) f = refl
