@@ -26,11 +26,10 @@ every_same zero p q h = refl
 every_same (suc n) p q h = ap (λ b. b && every n p) (h n (omega arith)) ∙ ap (λ b. q n && b) (every_same n p q (λ v d. h v (omega arith)))
 
 -- the rule on every variable's level, by what is kept
-pub all_readable : (C : Lattice) (sh : Sheet) (k : KeptSheet) → KeepsSheet C sh k → (l : ℕ) (b : Bool) → list_all (λ a. C.below a.present l) (take k.masks.variables k.access) ≡ b
-    → every (length sh.variables) (readable_at C sh l) ≡ b
-all_readable C sh k K l b e =
-    ap (λ n. every n (readable_at C sh l)) (sym K.masks.variables) ∙ every_same k.masks.variables _ _ (λ v d. is_readable C sh k K v l _ d refl)
-    ∙ sym (every_all (λ a. C.below a.present l) k.access no_access k.masks.variables (omega (arith, k.sizes.1, k.masks.counts.1))) ∙ e
+pub all_readable : (C : Lattice) (sh : Sheet) (k : KeptSheet) → KeepsSheet C sh k → (l : ℕ) → list_all (λ a. C.below a.present l) (take k.masks.variables k.access) ≡ every (length sh.variables) (readable_at C sh l)
+all_readable C sh k K l =
+    every_all (λ a. C.below a.present l) k.access no_access k.masks.variables (omega (arith, k.sizes.1, k.masks.counts.1)) ∙ every_same k.masks.variables _ _ (λ v d. is_readable C sh k K v l d)
+    ∙ ap (λ n. every n (readable_at C sh l)) K.masks.variables
 
 module _ (image : List ℤ → List ℕ) (xs : List ℤ) (u : ℕ) (long : length xs ≡ 64) where
   -- the machine's image is the store's

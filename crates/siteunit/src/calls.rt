@@ -11,7 +11,7 @@ ghost use Rattle.siteunit.specs.Obeying.{StandsFor, Obeys, Fills, itself, count,
 use crate::kept::{Access, KeptSheet};
 use crate::site::SiteBox;
 use flow::flow_masks;
-use interpreter::{Ending, pass, raise};
+use interpreter::{Ending, Memory};
 use lattice::Lattice;
 use policy::{condition_bit, has};
 use program::read_program;
@@ -62,15 +62,17 @@ fn draw<S: Store>(store: &S, buffer: &mut [u8])
 impl<L: Lattice, S: Store> SiteBox<L, S> {
     /// A box without a sheet, over a new store.
     pub fn new(lattice: L) -> Self
-        ensures fields { (result.lattice ≡ lattice) × (S.Store.values result.store ≡ replicate 64 (pos 0)) × (result.program ≡ None) × (result.up ≡ 0) }
+        ensures fields { (result.lattice ≡ lattice) × (S.Store.values result.memory.store ≡ replicate 64 (pos 0)) × (result.program ≡ None) × (result.memory.up ≡ 0) }
         ensures bare { StandsFor L.Lattice.lattice S.Store.values result bare }
     {
         SiteBox {
             lattice,
-            store: S::new(),
+            memory: Memory {
+                store: S::new(),
+                up: 0,
+            },
             sheet: None,
             program: None,
-            up: 0,
         }
     }
 
@@ -89,8 +91,8 @@ impl<L: Lattice, S: Store> SiteBox<L, S> {
             masks,
         });
         self.program = None;
-        self.store = S::new();
-        self.up = 0;
+        self.memory.store = S::new();
+        self.memory.up = 0;
         Ok(masks.variables as u8)
     }
 
@@ -113,11 +115,10 @@ impl<L: Lattice, S: Store> SiteBox<L, S> {
         if !sheet.access[place].fed {
             return Err(Rule::MayBeFed.into());
         }
-        let wipers = sheet.masks.variable[place].wipers;
-        if wipers & self.up != 0 {
+        if sheet.masks.variable[place].wipers & self.memory.up != 0 {
             return Err(Rule::NotWiped.into());
         }
-        self.store.put(place, value);
+        self.memory.write(&sheet.masks, variable, value);
         Ok(())
     }
 
@@ -127,7 +128,7 @@ impl<L: Lattice, S: Store> SiteBox<L, S> {
     {
         let sheet = self.sheet.as_ref().ok_or(Rule::NeedsSheet)?;
         sheet.condition(condition)?;
-        raise(&sheet.masks, &mut self.store, &mut self.up, condition);
+        self.memory.raise(&sheet.masks, condition);
         Ok(())
     }
 
@@ -137,17 +138,17 @@ impl<L: Lattice, S: Store> SiteBox<L, S> {
     {
         let sheet = self.sheet.as_ref().ok_or(Rule::NeedsSheet)?;
         sheet.condition(condition)?;
-        self.up &= !condition_bit(condition);
+        self.memory.up &= !condition_bit(condition);
         Ok(())
     }
 
     /// Runs the program once, with so many turns of loops at most; answers how it ended, and the turns used.
-    pub fn pass(&mut self, turns: u32) -> Result<(Ending, u32), Refusal>
+    pub fn pass(&mut self, turns: u32) -> Result<Ending, Refusal>
         ensures { Obeys L.Lattice.lattice S.Store.values S.Store.image ending self.old self.new (Call.pass turns) result }
     {
         let sheet = self.sheet.as_ref().ok_or(Rule::NeedsSheet)?;
         let program = self.program.as_ref().ok_or(Rule::NeedsProgram)?;
-        Ok(pass(program, &sheet.masks, &mut self.store, &mut self.up, turns))
+        Ok(self.memory.pass(&sheet.masks, program, turns))
     }
 
     /// The value of a variable, for who may know it.
@@ -160,7 +161,7 @@ impl<L: Lattice, S: Store> SiteBox<L, S> {
         if !self.lattice.below(sheet.access[place].present, level) {
             return Err(Rule::MayKnow.into());
         }
-        Ok(self.store.get(place))
+        Ok(self.memory.store.get(place))
     }
 
     /// Whether a condition is up, for who may know it.
@@ -173,24 +174,24 @@ impl<L: Lattice, S: Store> SiteBox<L, S> {
         if !self.lattice.below(sheet.levels[place], level) {
             return Err(Rule::MayKnow.into());
         }
-        Ok(has(self.up.into(), condition))
+        Ok(has(self.memory.up.into(), condition))
     }
 
     /// Writes the image of the store to the front of the buffer, for who may know every variable; answers its length.
     pub fn image(&self, level: u32, buffer: &mut [u8]) -> Result<usize, Refusal>
         ensures obeys { Obeys L.Lattice.lattice S.Store.values S.Store.image (front_of buffer.new) self.now self.now (Call.image level (length buffer.old)) result }
-        ensures fills { Fills (S.Store.image (S.Store.values self.now.store)) buffer.old buffer.new result }
+        ensures fills { Fills (S.Store.image (S.Store.values self.now.memory.store)) buffer.old buffer.new result }
     {
         let sheet = self.sheet.as_ref().ok_or(Rule::NeedsSheet)?;
         let level = known_level(&self.lattice, level)?;
         if !all_below(&self.lattice, sheet, level) {
             return Err(Rule::MayKnow.into());
         }
-        let size = self.store.image_len();
+        let size = self.memory.store.image_len();
         if buffer.len() < size {
             return Err(Rule::RoomForImage.into());
         }
-        draw(&self.store, &mut buffer[..size]);
+        draw(&self.memory.store, &mut buffer[..size]);
         Ok(size)
     }
 }

@@ -1,4 +1,4 @@
-use Rattle.std.proofs.Common.{◌≡◌, ◌++◌, Some, drop, ap, sym, rules}
+use Rattle.std.proofs.Common.{◌≡◌, ◌++◌, Some, drop, ap, rules}
 use Rattle.siteunit.specs.Obeying.{front_of}
 use Rattle.siteunit.proofs.Images.{all_readable, too_short, shown, has_room, front}
 use Rattle.siteunit.proofs.Steps.{tells}
@@ -10,28 +10,28 @@ returns-then-not-all_below-clause-obeys g c =
     let k = c.in_ok-sheet.sheet.now in
     let is : b.sheet ≡ Some k = search rules in
     tells g.L.Lattice.lattice g.S.Store.values g.S.Store.image b k is (front_of _) _ _
-    (λ sh p K. let all = all_readable _ sh k K c.in_ok-level.level _ (sym c.if-not-all_below.ensures) in search rules)
+    (λ sh p K. let all = all_readable _ sh k K c.in_ok-level.level in search rules)
 
 pub returns-then-buffer-size-clause-obeys : goal.returns-then-buffer-size-clause-obeys
 returns-then-buffer-size-clause-obeys g c =
     let b = c.args.self.now in
     let k = c.in_ok-sheet.sheet.now in
     let is : b.sheet ≡ Some k = search rules in
-    let short = too_short g.S.Store.image (g.S.Store.values b.store) b.up (g.met.S.Store.long b.store) _ _ c.if-buffer-size.true c.image_len-size.ensures in
+    let short = too_short g.S.Store.image (g.S.Store.values b.memory.store) b.memory.up (g.met.S.Store.long b.memory.store) _ _ c.if-buffer-size.true c.image_len-size.ensures in
     tells g.L.Lattice.lattice g.S.Store.values g.S.Store.image b k is (front_of _) _ _
-    (λ sh p K. let all = all_readable _ sh k K c.in_ok-level.level _ (sym c.if-not-all_below.ensures) in search rules)
+    (λ sh p K. let all = all_readable _ sh k K c.in_ok-level.level in search rules)
 
 pub returns-clause-obeys : goal.returns-clause-obeys
 returns-clause-obeys g c =
     let b = c.args.self.now in
     let k = c.in_ok-sheet.sheet.now in
     let is : b.sheet ≡ Some k = search rules in
-    let xs = g.S.Store.values b.store in
+    let xs = g.S.Store.values b.memory.store in
     let image = g.S.Store.image in
-    let long = g.met.S.Store.long b.store in
+    let long = g.met.S.Store.long b.memory.store in
     let whole = c.image_len-size.ensures in
-    let room = has_room image xs b.up long _ _ c.if-buffer-size.false whole in
-    let same = shown image xs b.up long in
+    let room = has_room image xs b.memory.up long _ _ c.if-buffer-size.false whole in
+    let same = shown image xs b.memory.up long in
     let first = front (image xs) c.args.buffer.now _ _ whole (ap (λ bs. bs ++ drop c.image_len-size.result c.args.buffer.now) c.draw.ensures) in
     tells g.L.Lattice.lattice g.S.Store.values g.S.Store.image b k is (front_of _) _ _
-    (λ sh p K. let all = all_readable _ sh k K c.in_ok-level.level _ (sym c.if-not-all_below.ensures) in search rules)
+    (λ sh p K. let all = all_readable _ sh k K c.in_ok-level.level in search rules)
