@@ -44,8 +44,8 @@ pub(crate) fn perform<L: Lattice, S: Store>(
             Answer::Number(0)
         }
         Call::Pass { turns } => match site.pass(turns)? {
-            (Ending::Done, used) => Answer::Done(used),
-            (Ending::Spent, used) => Answer::Spent(used),
+            Ending::Done { used } => Answer::Done(used),
+            Ending::Spent { used } => Answer::Spent(used),
         },
         Call::Look { level, variable } => Answer::Number(site.look(level, variable)?),
         Call::Ask { level, condition } => Answer::Number(site.ask(level, condition)? as i32),

@@ -1,9 +1,10 @@
 -- The rules and the bytes of an image. Assumes nothing.
-use Rattle.std.proofs.Common.{◌≡◌, ℕ, zero, suc, ◌+◌, ◌<◌, ◌≤◌, Bool, true, false, ◌&&◌, leb, List, ◌++◌, length, get_or, take, drop, ℤ, Ok, Err, Result, sym, refl, ap, ◌∙◌, inl, inr, zero-add, add-one, arith}
-use lib.Seq.{paste}
-use Rattle.std.proofs.lemmas.List.Edits.{paste_all}
+use Rattle.std.proofs.Common.{◌≡◌, ℕ, zero, suc, ◌<◌, ◌≤◌, Bool, true, false, ◌&&◌, leb, List, ◌++◌, length, get_or, take, drop, ℤ, Ok, Err, Result, sym, refl, ap, ◌∙◌, add-one, arith}
+use Rattle.std.specs.List.{list_all}
 use Rattle.std.proofs.lemmas.List.{take_at}
-use Rattle.std.proofs.lemmas.Bool.{cases_lt, le-leb, lt-leb, and_left, and_right, and_from}
+use Rattle.std.proofs.lemmas.List.Folds.{list_all_more}
+use Rattle.std.proofs.Math.Bool.{and_comm}
+use Rattle.std.proofs.lemmas.Bool.{le-leb, lt-leb}
 use Rattle.lattice.specs.Lattice.{Lattice}
 use Rattle.records.specs.declared.refusal.Refusal.{Refusal}
 use Rattle.sheet.specs.Sheet.{Sheet}
@@ -16,26 +17,19 @@ use Rattle.siteunit.specs.Standing.{no_access, KeepsSheet}
 use Rattle.siteunit.specs.Obeying.{Fills}
 use Rattle.siteunit.proofs.Steps.{is_readable}
 
-pub every_more : (n : ℕ) (p : ℕ → Bool) → every n p ≡ true → p n ≡ true → every (n + 1) p ≡ true
-every_more n p h e = rw add-one (and_from _ _ e h)
-
-pub every_not : (k n : ℕ) (p : ℕ → Bool) → k < n → p k ≡ false → every n p ≡ false
-every_not k zero p d e = absurd (omega arith)
-every_not k (suc n) p d e =
-    elim (cases_lt k n) [
-      | inl h ↦ and_right (p n) (every n p) (every_not k n p h e)
-      | inr h ↦ let q : k ≡ n = omega arith in and_left (p n) (every n p) (sym (ap p q) ∙ e)
-    ]
+every_all : {X : Type 0} (p : X → Bool) (xs : List X) (d : X) (n : ℕ) → n ≤ length xs → list_all p (take n xs) ≡ every n (λ v. p (get_or xs v d))
+every_all p xs d zero h = refl
+every_all p xs d (suc n) h = ap (λ j. list_all p (take j xs)) (sym (add-one n)) ∙ list_all_more p xs n d h ∙ and_comm (list_all p (take n xs)) (p (get_or xs n d)) ∙ ap (λ b. p (get_or xs n d) && b) (every_all p xs d n (omega arith))
 
 every_same : (n : ℕ) (p q : ℕ → Bool) → ((v : ℕ) → v < n → p v ≡ q v) → every n p ≡ every n q
 every_same zero p q h = refl
 every_same (suc n) p q h = ap (λ b. b && every n p) (h n (omega arith)) ∙ ap (λ b. q n && b) (every_same n p q (λ v d. h v (omega arith)))
 
 -- the rule on every variable's level, by what is kept
-pub all_readable : (C : Lattice) (sh : Sheet) (k : KeptSheet) → KeepsSheet C sh k → (l : ℕ) (b : Bool) → every k.masks.variables (λ v. C.below (get_or k.access v no_access).present l) ≡ b
-    → every (length sh.variables) (readable_at C sh l) ≡ b
-all_readable C sh k K l b e =
-    ap (λ n. every n (readable_at C sh l)) (sym K.masks.variables) ∙ every_same k.masks.variables _ _ (λ v d. is_readable C sh k K v l _ d refl) ∙ e
+pub all_readable : (C : Lattice) (sh : Sheet) (k : KeptSheet) → KeepsSheet C sh k → (l : ℕ) → list_all (λ a. C.below a.present l) (take k.masks.variables k.access) ≡ every (length sh.variables) (readable_at C sh l)
+all_readable C sh k K l =
+    every_all (λ a. C.below a.present l) k.access no_access k.masks.variables (omega (arith, k.sizes.1, k.masks.counts.1)) ∙ every_same k.masks.variables _ _ (λ v d. is_readable C sh k K v l d)
+    ∙ ap (λ n. every n (readable_at C sh l)) K.masks.variables
 
 module _ (image : List ℤ → List ℕ) (xs : List ℤ) (u : ℕ) (long : length xs ≡ 64) where
   -- the machine's image is the store's
@@ -48,10 +42,7 @@ module _ (image : List ℤ → List ℕ) (xs : List ℤ) (u : ℕ) (long : lengt
   pub has_room : (size n : ℕ) → n ≤ size → n ≡ length (image xs) → leb (length (image (held (memory_of xs u)))) size ≡ true
   has_room size n h e = ap (λ bs. leb (length bs) size) shown ∙ le-leb _ _ (omega arith)
 
-module _ (bytes before after : List ℕ) (n : ℕ) (whole : n ≡ length bytes) (pasted : after ≡ paste before 0 bytes n) where
-  joined : after ≡ bytes ++ drop n before
-  joined = pasted ∙ paste_all before 0 bytes n whole ∙ ap (λ j. bytes ++ drop j before) (zero-add n)
-
+module _ (bytes before after : List ℕ) (n : ℕ) (whole : n ≡ length bytes) (joined : after ≡ bytes ++ drop n before) where
   pub front : take n after ≡ bytes
   front = ap (take n) joined ∙ take_at bytes (drop n before) n (sym whole)
 

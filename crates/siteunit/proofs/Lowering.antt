@@ -37,9 +37,9 @@ none : (b : Bool) → cond b false false ≡ false
 none true = refl
 none false = refl
 
-pub bit_without : (c u k : ℕ) → c < 16 → u < 2 ^ 16 → bit k (bit_and u (65535 - (1 * 2 ^ c) % 2 ^ 16)) ≡ cond (eqb k c) false (bit k u)
-bit_without c u k h small =
-    bit_and_lem k u _ ∙ ap (λ (n : ℕ). bit k u && bit k (65535 - n)) (one_shl c 16 h)
+pub bit_without : (c u n k : ℕ) → c < 16 → u < 2 ^ 16 → n ≡ (1 * 2 ^ c) % 2 ^ 16 → bit k (bit_and u (65535 - n)) ≡ cond (eqb k c) false (bit k u)
+bit_without c u n k h small e =
+    bit_and_lem k u _ ∙ ap (λ (n : ℕ). bit k u && bit k (65535 - n)) (e ∙ one_shl c 16 h)
     ∙ elim (cases_lt k 16) [
       | inl l ↦ ap (λ b. bit k u && b) (bit_but c k h l) ∙ both (eqb k c) (bit k u)
       | inr l ↦ let z = bit_high 16 k u small l in ap (λ b. b && bit k (65535 - 2 ^ c)) z ∙ sym (ap (λ b. cond (eqb k c) false b) z ∙ none (eqb k c))

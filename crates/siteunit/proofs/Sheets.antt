@@ -3,10 +3,8 @@ use Rattle.std.proofs.Common.{◌≡◌, ℕ, ◌<◌, true, false, List, get_or
 use lib.ListN.{get_or-replicate}
 use Rattle.std.proofs.lemmas.List.{get_or_past}
 use Rattle.std.proofs.lemmas.Bool.{both_ways, cases_lt, ltb-true}
+use mathlib.Core.Option.{none}
 use Rattle.lattice.specs.Lattice.{Lattice}
-use Rattle.records.specs.declared.refusal.Refusal.{Refusal}
-use Rattle.records.specs.Records.{Each, Byte}
-use Rattle.records.specs.Rules.{accepted, refused}
 use Rattle.policy.specs.Rows.{no_leaf}
 use Rattle.policy.proofs.Filled.{holds_present}
 use Rattle.policy.proofs.Masks.{bit_zero}
@@ -14,27 +12,16 @@ use Rattle.sheet.specs.declared.rows.SheetTable.{SheetTable}
 use Rattle.sheet.specs.Sheet.{Sheet, policy_of}
 use Rattle.sheet.specs.Table.{Represents, blank_variable}
 use Rattle.sheet.specs.Valid.{Valid}
-use Rattle.sheet.specs.Reader.{SheetRead, SheetRefused}
 use Rattle.machine.specs.Memory.{cleared}
-use Rattle.machine.specs.Calls.{Call, Answer}
-use Rattle.machine.specs.Machine.{State, bare, begun}
 use Rattle.machine.proofs.Memories.{memory_ext}
-use Rattle.program.specs.declared.kept.Program.{Program}
-use Rattle.program.proofs.Readers.{reads_bytes}
 use Rattle.flow.specs.TableFlows.{FlowsOf}
 use Rattle.interpreter.specs.Meaning.{memory_of}
 use Rattle.siteunit.specs.declared.kept.KeptSheet.{KeptSheet}
-use Rattle.siteunit.specs.Standing.{no_access, access_of, KeepsSheet, Stands}
-use Rattle.siteunit.proofs.Steps.{Goes, goes, without_sheet}
+use Rattle.siteunit.specs.Standing.{no_access, access_of, KeepsSheet, Ready}
 
 pub none_without : (o : Option KeptSheet) → is_some o ≡ false → o ≡ None
 none_without None e = refl
 none_without (Some k) e = absurd (both_ways true e refl)
-
-pub sheet_refused : (C : Lattice) (image : List ℤ → List ℕ) (o : Option KeptSheet) (l : Option Program) (xs : List ℤ) (u : ℕ) (bytes : List ℕ) (e : Refusal) → o ≡ None → Each Byte bytes → SheetRefused C bytes e
-    → (st : State) → Stands C o l xs u st → Goes C image o l xs u st (Call.sheet bytes) (Answer.refused e)
-sheet_refused C image o l xs u bytes e is b r =
-    without_sheet C image o l xs u is (λ st. Goes C image o l xs u st (Call.sheet bytes) (Answer.refused e)) (goes C image o l xs u bare (Call.sheet bytes) (begun (refused e)) (ap begun (reads_bytes C bytes b ∙ r.answer)) is)
 
 zeros : (v : ℕ) → get_or (replicate 64 (pos 0)) v (pos 0) ≡ pos 0
 zeros v = elim (cases_lt v 64) [ inl h ↦ get_or-replicate 64 v (pos 0) (pos 0) h | inr h ↦ get_or_past (replicate 64 (pos 0)) v (pos 0) h ]
@@ -51,17 +38,13 @@ module _ (C : Lattice) (t : SheetTable) (k : KeptSheet) (levels : k.levels ≡ t
     fed = λ v h. let l = ltb-true _ _ h in ap (λ a. a.fed) (access v (omega (arith, V.counts.1))) ∙ (R.rows v l).fed;
   }
 
-  pub sheet_done : (image : List ℤ → List ℕ) (o : Option KeptSheet) (l : Option Program) (xs ys : List ℤ) (u : ℕ) (bytes : List ℕ) → o ≡ None → Each Byte bytes → SheetRead C bytes t → ys ≡ replicate 64 (pos 0)
-      → (st : State) → Stands C o l xs u st → Goes C image (Some k) None ys 0 st (Call.sheet bytes) (Answer.number (pos k.masks.variables))
-  sheet_done image o l xs ys u bytes is b r e =
-      let sh = r.sheet in
-      let K : KeepsSheet C sh k = keeps sh r.represents r.valid in
-      let zero-at : (v : ℕ) → get_or ys v (pos 0) ≡ pos 0 = λ v. ap (λ l. get_or l v (pos 0)) e ∙ zeros v in
-      let done = goes C image (Some k) None ys 0 bare (Call.sheet bytes) (begun (accepted sh)) (ap begun (reads_bytes C bytes b ∙ r.answer)) (record {
-        sheet = K;
+  -- the state that the machine begins with
+  pub begins_as : (sh : Sheet) (xs : List ℤ) → Represents t sh → Valid C sh → xs ≡ replicate 64 (pos 0) → Ready C (Some k) None xs 0 sh none cleared
+  begins_as sh xs R V e =
+      let zero-at : (v : ℕ) → get_or xs v (pos 0) ≡ pos 0 = λ v. ap (λ l. get_or l v (pos 0)) e ∙ zeros v in
+      record {
+        sheet = keeps sh R V;
         program = tt;
-        memory = memory_ext cleared (memory_of ys 0) (λ v. sym (zero-at v)) (λ c. sym (bit_zero c));
+        memory = memory_ext cleared (memory_of xs 0) (λ v. sym (zero-at v)) (λ c. sym (bit_zero c));
         wiped = λ v _. zero-at v;
-      }) in
-      without_sheet C image o l xs u is (λ st. Goes C image (Some k) None ys 0 st (Call.sheet bytes) (Answer.number (pos k.masks.variables)))
-      (ap (λ n. Answer.number (pos n)) K.masks.variables ∙ done.0, done.1)
+      }

@@ -32,12 +32,9 @@ abbrev pub nothing : {T : Type 0} → T → Answer
 nothing x = Answer.number (pos 0)
 
 -- how a pass ended, and its turns
-abbrev pub ended_with : Ending → ℕ → Answer
-ended_with Done turns = Answer.done turns
-ended_with Spent turns = Answer.spent turns
-
-abbrev pub ending : Ending × ℕ → Answer
-ending r = ended_with r.0 r.1
+abbrev pub ending : Ending → Answer
+ending (Done used) = Answer.done used
+ending (Spent used) = Answer.spent used
 
 -- the bytes at the front of a buffer
 abbrev pub front_of : List ℕ → ℕ → Answer
@@ -50,12 +47,12 @@ pub record Fills (image before after : List ℕ) (r : Result ℕ Refusal) : Type
 
 module _ {X Y : Type 0} (lattice_of : X → Lattice) (values_of : Y → List ℤ) where
   abbrev pub StandsFor : SiteBox X Y → State → Type 0
-  StandsFor b st = Stands (lattice_of b.lattice) b.sheet b.program (values_of b.store) b.up st
+  StandsFor b st = Stands (lattice_of b.lattice) b.sheet b.program (values_of b.memory.store) b.memory.up st
 
   -- in the box itself, no variable holds anything but zero while a condition that wipes it is up
   abbrev pub WipedIn : SiteBox X Y → State → Type 0
   WipedIn b bare = Unit {0}
-  WipedIn b (ready sh p m) = WipedWhileUp sh (values_of b.store) b.up
+  WipedIn b (ready sh p m) = WipedWhileUp sh (values_of b.memory.store) b.memory.up
 
   -- For whichever state of the machine the box stands for, the answer is the machine's, and the box then stands for the machine's
   -- next state, with its variables wiped while they should be. A refusal leaves the box as it is.

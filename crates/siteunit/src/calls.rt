@@ -1,86 +1,78 @@
 // The calls on a box.
-ghost use Rattle.std.specs.Prelude.{◌≡◌, ℕ, ◌<◌, ◌≤◌, false, length, get_or, replicate, pos, if◌then◌else◌, None, nat_eq, slice_index_or};
-ghost use Rattle.std.proofs.Math.Seq.{paste};
-ghost use Rattle.policy.specs.Masks.{bit};
+ghost use Rattle.std.specs.Prelude.{◌≡◌, ℕ, ◌<◌, ◌≤◌, true, false, length, take, map, replicate, pos, MatchResult, None, slice_index_or};
+ghost use Rattle.std.specs.List.{list_all};
+ghost use Rattle.records.specs.declared.rule.Rule.TheVariants.{IsLevel};
 ghost use Rattle.sheet.specs.Table.{blank_variable};
 ghost use Rattle.machine.specs.Calls.{Call};
 ghost use Rattle.machine.specs.Machine.{bare};
-ghost use Rattle.machine.specs.Memory.{every};
 ghost use Rattle.siteunit.specs.Standing.{no_access, access_of};
 ghost use Rattle.siteunit.specs.Obeying.{StandsFor, Obeys, Fills, itself, count, one_if, nothing, ending, front_of};
 
 use crate::kept::{Access, KeptSheet};
 use crate::site::SiteBox;
 use flow::flow_masks;
-use interpreter::{Ending, pass, raise};
+use interpreter::{Ending, Memory};
 use lattice::Lattice;
+use policy::{condition_bit, has};
 use program::read_program;
 use records::{Refusal, Rule};
 use sheet::{SheetTable, read_sheet};
+use std::array::from_fn;
 use store::Store;
 
-// A mask of conditions without one of them.
-fn without(up: u16, condition: u8) -> u16
-    requires { condition < 16 }
-    ensures { (c : ℕ) → bit c result ≡ (if nat_eq c condition then false else bit c up) }
+// The level, if the lattice knows it.
+fn known_level<L: Lattice>(lattice: &L, level: u32) -> Result<u32, Rule>
+    ensures { let known = (L.Lattice.lattice lattice.now).known level in
+        MatchResult result (λ code. (code ≡ level) × (known ≡ true)) (λ rule. (rule ≡ IsLevel) × (known ≡ false)) }
 {
-    up & !(1 << condition)
+    if lattice.known(level) {
+        Ok(level)
+    } else {
+        Err(Rule::IsLevel)
+    }
 }
 
 // Who may know each variable, and which may be fed.
 fn access_to(table: &SheetTable) -> [Access; 64]
     ensures { (v : ℕ) → v < 64 → slice_index_or result v no_access ≡ access_of (slice_index_or table.now.rows v blank_variable) }
 {
-    let mut access = [Access {
-        present: 0,
-        fed: false,
-    }; 64];
-    for variable in 0..64 {
-        let row = &table.rows[variable];
-        access[variable] = Access {
-            present: row.policy.present_level(),
-            fed: row.fed,
-        };
-    }
-    access
+    table.rows.map(|row| Access::from(&row))
 }
 
 // Is the present level of every variable below this one?
 fn all_below<L: Lattice>(lattice: &L, sheet: &KeptSheet, level: u32) -> bool
-    ensures { result ≡ every sheet.now.masks.variables
-        (λ v. (L.Lattice.lattice lattice.now).below (get_or sheet.now.access v no_access).present level) }
+    ensures { result ≡ list_all (λ access. (L.Lattice.lattice lattice.now).below access.present level) (take sheet.now.masks.variables sheet.now.access) }
 {
-    for variable in 0..sheet.masks.variables {
-        if !lattice.below(sheet.access[variable].present, level) {
-            return false;
-        }
-    }
-    true
+    sheet
+        .declared()
+        .iter()
+        .all(|access| lattice.below(access.present, level))
 }
 
-// Copies the image of a store to the front of a buffer.
-fn draw<S: Store>(store: &S, buffer: &mut [u8], size: usize)
-    requires whole { size ≡ length (S.Store.image (S.Store.values store.now)) }
-    requires room { size ≤ length buffer.old }
-    ensures { buffer.new ≡ paste buffer.old 0 (S.Store.image (S.Store.values store.now)) size }
+// Writes the image of a store into a buffer of its size.
+fn draw<S: Store>(store: &S, buffer: &mut [u8])
+    requires { length buffer.old ≡ length (S.Store.image (S.Store.values store.now)) }
+    ensures { buffer.new ≡ S.Store.image (S.Store.values store.now) }
 {
-    for at in 0..size {
-        buffer[at] = store.image_byte(at);
+    for (at, byte) in buffer.iter_mut().enumerate() {
+        *byte = store.image_byte(at);
     }
 }
 
 impl<L: Lattice, S: Store> SiteBox<L, S> {
     /// A box without a sheet, over a new store.
     pub fn new(lattice: L) -> Self
-        ensures fields { (result.lattice ≡ lattice) × (S.Store.values result.store ≡ replicate 64 (pos 0)) × (result.program ≡ None) × (result.up ≡ 0) }
+        ensures fields { (result.lattice ≡ lattice) × (S.Store.values result.memory.store ≡ replicate 64 (pos 0)) × (result.program ≡ None) × (result.memory.up ≡ 0) }
         ensures bare { StandsFor L.Lattice.lattice S.Store.values result bare }
     {
         SiteBox {
             lattice,
-            store: S::new(),
+            memory: Memory {
+                store: S::new(),
+                up: 0,
+            },
             sheet: None,
             program: None,
-            up: 0,
         }
     }
 
@@ -99,8 +91,8 @@ impl<L: Lattice, S: Store> SiteBox<L, S> {
             masks,
         });
         self.program = None;
-        self.store = S::new();
-        self.up = 0;
+        self.memory.store = S::new();
+        self.memory.up = 0;
         Ok(masks.variables as u8)
     }
 
@@ -108,9 +100,7 @@ impl<L: Lattice, S: Store> SiteBox<L, S> {
     pub fn load(&mut self, bytes: &[u8]) -> Result<u16, Refusal>
         ensures { Obeys L.Lattice.lattice S.Store.values S.Store.image count self.old self.new (Call.load bytes.now) result }
     {
-        let Some(sheet) = &self.sheet else {
-            return Err(Rule::NeedsSheet.into());
-        };
+        let sheet = self.sheet.as_ref().ok_or(Rule::NeedsSheet)?;
         let program = read_program(&sheet.masks, bytes)?;
         self.program = Some(program);
         Ok(program.count as u16)
@@ -120,21 +110,15 @@ impl<L: Lattice, S: Store> SiteBox<L, S> {
     pub fn feed(&mut self, variable: u8, value: i32) -> Result<(), Refusal>
         ensures { Obeys L.Lattice.lattice S.Store.values S.Store.image nothing self.old self.new (Call.feed variable value) result }
     {
-        let Some(sheet) = &self.sheet else {
-            return Err(Rule::NeedsSheet.into());
-        };
-        let place = variable as usize;
-        if place >= sheet.masks.variables {
-            return Err(Rule::IsVariable.into());
-        }
+        let sheet = self.sheet.as_ref().ok_or(Rule::NeedsSheet)?;
+        let place = sheet.variable(variable)?;
         if !sheet.access[place].fed {
             return Err(Rule::MayBeFed.into());
         }
-        let wipers = sheet.masks.variable[place].wipers;
-        if wipers & self.up != 0 {
+        if sheet.masks.variable[place].wipers & self.memory.up != 0 {
             return Err(Rule::NotWiped.into());
         }
-        self.store.put(place, value);
+        self.memory.write(&sheet.masks, variable, value);
         Ok(())
     }
 
@@ -142,13 +126,9 @@ impl<L: Lattice, S: Store> SiteBox<L, S> {
     pub fn raise(&mut self, condition: u8) -> Result<(), Refusal>
         ensures { Obeys L.Lattice.lattice S.Store.values S.Store.image nothing self.old self.new (Call.raise condition) result }
     {
-        let Some(sheet) = &self.sheet else {
-            return Err(Rule::NeedsSheet.into());
-        };
-        if condition as usize >= sheet.masks.conditions {
-            return Err(Rule::IsCondition.into());
-        }
-        raise(&sheet.masks, &mut self.store, &mut self.up, condition);
+        let sheet = self.sheet.as_ref().ok_or(Rule::NeedsSheet)?;
+        sheet.condition(condition)?;
+        self.memory.raise(&sheet.masks, condition);
         Ok(())
     }
 
@@ -156,87 +136,62 @@ impl<L: Lattice, S: Store> SiteBox<L, S> {
     pub fn lower(&mut self, condition: u8) -> Result<(), Refusal>
         ensures { Obeys L.Lattice.lattice S.Store.values S.Store.image nothing self.old self.new (Call.lower condition) result }
     {
-        let Some(sheet) = &self.sheet else {
-            return Err(Rule::NeedsSheet.into());
-        };
-        if condition as usize >= sheet.masks.conditions {
-            return Err(Rule::IsCondition.into());
-        }
-        self.up = without(self.up, condition);
+        let sheet = self.sheet.as_ref().ok_or(Rule::NeedsSheet)?;
+        sheet.condition(condition)?;
+        self.memory.up &= !condition_bit(condition);
         Ok(())
     }
 
     /// Runs the program once, with so many turns of loops at most; answers how it ended, and the turns used.
-    pub fn pass(&mut self, turns: u32) -> Result<(Ending, u32), Refusal>
+    pub fn pass(&mut self, turns: u32) -> Result<Ending, Refusal>
         ensures { Obeys L.Lattice.lattice S.Store.values S.Store.image ending self.old self.new (Call.pass turns) result }
     {
-        let Some(sheet) = &self.sheet else {
-            return Err(Rule::NeedsSheet.into());
-        };
-        let Some(program) = &self.program else {
-            return Err(Rule::NeedsProgram.into());
-        };
-        Ok(pass(program, &sheet.masks, &mut self.store, &mut self.up, turns))
+        let sheet = self.sheet.as_ref().ok_or(Rule::NeedsSheet)?;
+        let program = self.program.as_ref().ok_or(Rule::NeedsProgram)?;
+        Ok(self.memory.pass(&sheet.masks, program, turns))
     }
 
     /// The value of a variable, for who may know it.
     pub fn look(&self, level: u32, variable: u8) -> Result<i32, Refusal>
         ensures { Obeys L.Lattice.lattice S.Store.values S.Store.image itself self.now self.now (Call.look level variable) result }
     {
-        let Some(sheet) = &self.sheet else {
-            return Err(Rule::NeedsSheet.into());
-        };
-        if !self.lattice.known(level) {
-            return Err(Rule::IsLevel.into());
-        }
-        let place = variable as usize;
-        if place >= sheet.masks.variables {
-            return Err(Rule::IsVariable.into());
-        }
+        let sheet = self.sheet.as_ref().ok_or(Rule::NeedsSheet)?;
+        let level = known_level(&self.lattice, level)?;
+        let place = sheet.variable(variable)?;
         if !self.lattice.below(sheet.access[place].present, level) {
             return Err(Rule::MayKnow.into());
         }
-        Ok(self.store.get(place))
+        Ok(self.memory.store.get(place))
     }
 
     /// Whether a condition is up, for who may know it.
     pub fn ask(&self, level: u32, condition: u8) -> Result<bool, Refusal>
         ensures { Obeys L.Lattice.lattice S.Store.values S.Store.image one_if self.now self.now (Call.ask level condition) result }
     {
-        let Some(sheet) = &self.sheet else {
-            return Err(Rule::NeedsSheet.into());
-        };
-        if !self.lattice.known(level) {
-            return Err(Rule::IsLevel.into());
-        }
-        if condition as usize >= sheet.masks.conditions {
-            return Err(Rule::IsCondition.into());
-        }
-        if !self.lattice.below(sheet.levels[condition as usize], level) {
+        let sheet = self.sheet.as_ref().ok_or(Rule::NeedsSheet)?;
+        let level = known_level(&self.lattice, level)?;
+        let place = sheet.condition(condition)?;
+        if !self.lattice.below(sheet.levels[place], level) {
             return Err(Rule::MayKnow.into());
         }
-        Ok((self.up >> condition) & 1 == 1)
+        Ok(has(self.memory.up.into(), condition))
     }
 
     /// Writes the image of the store to the front of the buffer, for who may know every variable; answers its length.
     pub fn image(&self, level: u32, buffer: &mut [u8]) -> Result<usize, Refusal>
         ensures obeys { Obeys L.Lattice.lattice S.Store.values S.Store.image (front_of buffer.new) self.now self.now (Call.image level (length buffer.old)) result }
-        ensures fills { Fills (S.Store.image (S.Store.values self.now.store)) buffer.old buffer.new result }
+        ensures fills { Fills (S.Store.image (S.Store.values self.now.memory.store)) buffer.old buffer.new result }
     {
-        let Some(sheet) = &self.sheet else {
-            return Err(Rule::NeedsSheet.into());
-        };
-        if !self.lattice.known(level) {
-            return Err(Rule::IsLevel.into());
-        }
+        let sheet = self.sheet.as_ref().ok_or(Rule::NeedsSheet)?;
+        let level = known_level(&self.lattice, level)?;
         if !all_below(&self.lattice, sheet, level) {
             return Err(Rule::MayKnow.into());
         }
-        let size = self.store.image_len();
+        let size = self.memory.store.image_len();
         if buffer.len() < size {
             return Err(Rule::RoomForImage.into());
         }
-        draw(&self.store, buffer, size);
+        draw(&self.memory.store, &mut buffer[..size]);
         Ok(size)
     }
 }

@@ -5,10 +5,9 @@
 mod tests {
     use interpreter::Ending;
     use lattice::{Chain, Lattice, ReaderSets};
-    use records::Refusal;
+    use records::{Refusal, Rule};
     use siteunit::SiteBox;
     use std::process::Abort;
-    use std::test::Fail;
     use store::{DenseStore, SparseStore, Store};
 
     // Conditions 0 and 1, at a low and at a high level. Variable 0 may be fed, and is wiped on condition 0; variable 1 is at the
@@ -52,217 +51,174 @@ mod tests {
         b'K', 0, 0, 0, 0, 0, 0, 0,
     ];
 
-    fn refused<T: Drop>(rt: &impl Abort, res: Result<T, Refusal>, number: u8) -> Result<(), Fail> {
-        match res {
-            Ok(_) => {
-                assert!(rt; false);
-                Ok(())
-            },
-            Err(refusal) => {
-                assert_eq!(rt; refusal.number, number);
-                assert_eq!(rt; refusal.place, 0);
-                assert_eq!(rt; refusal.detail, 0);
-                Ok(())
-            }
-        }
-    }
-
-    fn sees<L: Lattice, S: Store>(
-        rt: &impl Abort,
-        unit: &SiteBox<L, S>,
-        level: u32,
-        variable: u8,
-        value: i32,
-    ) -> Result<(), Fail> {
-        match unit.look(level, variable) {
-            Ok(found) => {
-                assert_eq!(rt; found, value);
-                Ok(())
-            },
-            Err(refusal) => {
-                assert_eq!(rt; refusal.number, 0);
-                Ok(())
-            },
-        }
-    }
-
-    fn passes<L: Lattice, S: Store>(
-        rt: &impl Abort,
-        unit: &mut SiteBox<L, S>,
-        turns: u32,
-        ending: Ending,
-        used: u32,
-    ) -> Result<(), Fail> {
-        match unit.pass(turns) {
-            Ok((how, count)) => {
-                assert!(rt; how == ending);
-                assert_eq!(rt; count, used);
-                Ok(())
-            }
-            Err(refusal) => {
-                assert_eq!(rt; refusal.number, 0);
-                Ok(())
-            },
-        }
-    }
-
-    fn before_a_sheet<L: Lattice, S: Store>(
-        rt: &impl Abort,
-        unit: &mut SiteBox<L, S>,
-    ) -> Result<(), Fail> {
-        refused(rt, unit.feed(0, 7), 10)?;
-        refused(rt, unit.raise(0), 10)?;
-        refused(rt, unit.lower(0), 10)?;
-        refused(rt, unit.look(0, 0), 10)?;
-        refused(rt, unit.ask(0, 0), 10)?;
-        refused(rt, unit.load(&[]), 10)?;
-        refused(rt, unit.pass(1), 10)?;
-        refused(rt, unit.image(0, &mut [0]), 10)?;
-        refused(rt, unit.sheet(&[0]), 2)
-    }
-
     // `mid` may know variable 0 for now, and `low` may know what is at the lowest level.
+    #[derive(Clone, Copy)]
+    struct Levels {
+        low: u32,
+        mid: u32,
+    }
+
+    // How many bytes the image has, and where a 7 in variable 2 shows in it.
+    #[derive(Clone, Copy)]
+    struct Image {
+        size: usize,
+        place: usize,
+    }
+
+    fn refused<T: Drop>(rt: &impl Abort, res: Result<T, Refusal>, rule: Rule) {
+        assert_eq!(rt; res.err(), Some(rule.into()));
+    }
+
+    fn before_a_sheet<L: Lattice, S: Store>(rt: &impl Abort, unit: &mut SiteBox<L, S>) {
+        refused(rt, unit.feed(0, 7), Rule::NeedsSheet);
+        refused(rt, unit.raise(0), Rule::NeedsSheet);
+        refused(rt, unit.lower(0), Rule::NeedsSheet);
+        refused(rt, unit.look(0, 0), Rule::NeedsSheet);
+        refused(rt, unit.ask(0, 0), Rule::NeedsSheet);
+        refused(rt, unit.load(&[]), Rule::NeedsSheet);
+        refused(rt, unit.pass(1), Rule::NeedsSheet);
+        refused(rt, unit.image(0, &mut [0]), Rule::NeedsSheet);
+        refused(rt, unit.sheet(&[0]), Rule::SheetLength);
+    }
+
     fn refusals<L: Lattice, S: Store>(
         rt: &impl Abort,
         unit: &mut SiteBox<L, S>,
-        low: u32,
-        mid: u32,
-    ) -> Result<(), Fail> {
-        refused(rt, unit.sheet(&[]), 1)?;
-        refused(rt, unit.feed(3, 7), 24)?;
-        refused(rt, unit.feed(255, 7), 24)?;
-        refused(rt, unit.feed(2, 7), 19)?;
-        refused(rt, unit.raise(2), 21)?;
-        refused(rt, unit.lower(255), 21)?;
-        refused(rt, unit.look(70_000, 0), 23)?;
-        refused(rt, unit.look(mid, 3), 24)?;
-        refused(rt, unit.look(low, 0), 25)?;
-        refused(rt, unit.ask(70_000, 0), 23)?;
-        refused(rt, unit.ask(low, 2), 21)?;
-        refused(rt, unit.ask(mid, 1), 25)?;
-        refused(rt, unit.image(70_000, &mut [0]), 23)?;
-        refused(rt, unit.image(low, &mut [0]), 25)?;
-        refused(rt, unit.image(mid, &mut [0]), 26)?;
-        refused(rt, unit.load(&[0]), 11)?;
-        refused(rt, unit.load(&[0; 8]), 12)
+        Levels { low, mid }: Levels,
+    ) {
+        refused(rt, unit.sheet(&[]), Rule::NoSheetYet);
+        refused(rt, unit.feed(3, 7), Rule::IsVariable);
+        refused(rt, unit.feed(255, 7), Rule::IsVariable);
+        refused(rt, unit.feed(2, 7), Rule::MayBeFed);
+        refused(rt, unit.raise(2), Rule::IsCondition);
+        refused(rt, unit.lower(255), Rule::IsCondition);
+        refused(rt, unit.look(70_000, 0), Rule::IsLevel);
+        refused(rt, unit.look(mid, 3), Rule::IsVariable);
+        refused(rt, unit.look(low, 0), Rule::MayKnow);
+        refused(rt, unit.ask(70_000, 0), Rule::IsLevel);
+        refused(rt, unit.ask(low, 2), Rule::IsCondition);
+        refused(rt, unit.ask(mid, 1), Rule::MayKnow);
+        refused(rt, unit.image(70_000, &mut [0]), Rule::IsLevel);
+        refused(rt, unit.image(low, &mut [0]), Rule::MayKnow);
+        refused(rt, unit.image(mid, &mut [0]), Rule::RoomForImage);
+        refused(rt, unit.load(&[0]), Rule::ProgramLength);
+        refused(rt, unit.load(&[0; 8]), Rule::ProgramLetter);
     }
 
     fn wiping<L: Lattice, S: Store>(
         rt: &impl Abort,
         unit: &mut SiteBox<L, S>,
-        low: u32,
-        mid: u32,
-    ) -> Result<(), Fail> {
-        sees(rt, unit, mid, 0, 0)?;
-        assert!(rt; unit.feed(0, i32::MIN).is_ok());
-        assert!(rt; unit.feed(1, -1).is_ok());
-        sees(rt, unit, mid, 0, i32::MIN)?;
-        assert!(rt; unit.raise(0).is_ok());
-        sees(rt, unit, mid, 0, 0)?;
-        sees(rt, unit, low, 1, -1)?;
-        refused(rt, unit.feed(0, 9), 20)?;
-        assert!(rt; unit.feed(1, 5).is_ok());
-        assert!(rt; matches!(unit.ask(low, 0), Ok(true)));
-        assert!(rt; unit.raise(1).is_ok());
-        assert!(rt; unit.lower(0).is_ok());
-        assert!(rt; matches!(unit.ask(low, 0), Ok(false)));
-        sees(rt, unit, mid, 0, 0)?;
-        assert!(rt; unit.feed(0, 9).is_ok());
-        sees(rt, unit, mid, 0, 9)?;
-        sees(rt, unit, low, 1, 5)
+        Levels { low, mid }: Levels,
+    ) {
+        assert_eq!(rt; unit.look(mid, 0), Ok(0));
+        assert_eq!(rt; unit.feed(0, i32::MIN), Ok(()));
+        assert_eq!(rt; unit.feed(1, -1), Ok(()));
+        assert_eq!(rt; unit.look(mid, 0), Ok(i32::MIN));
+        assert_eq!(rt; unit.raise(0), Ok(()));
+        assert_eq!(rt; unit.look(mid, 0), Ok(0));
+        assert_eq!(rt; unit.look(low, 1), Ok(-1));
+        refused(rt, unit.feed(0, 9), Rule::NotWiped);
+        assert_eq!(rt; unit.feed(1, 5), Ok(()));
+        assert_eq!(rt; unit.ask(low, 0), Ok(true));
+        assert_eq!(rt; unit.raise(1), Ok(()));
+        assert_eq!(rt; unit.lower(0), Ok(()));
+        assert_eq!(rt; unit.ask(low, 0), Ok(false));
+        assert_eq!(rt; unit.look(mid, 0), Ok(0));
+        assert_eq!(rt; unit.feed(0, 9), Ok(()));
+        assert_eq!(rt; unit.look(mid, 0), Ok(9));
+        assert_eq!(rt; unit.look(low, 1), Ok(5));
     }
 
     // Variable 1 holds 5 at the start.
     fn programs<L: Lattice, S: Store>(
         rt: &impl Abort,
         unit: &mut SiteBox<L, S>,
-        low: u32,
-        mid: u32,
-    ) -> Result<(), Fail> {
-        refused(rt, unit.pass(1), 22)?;
-        assert!(rt; matches!(unit.load(&PROGRAM), Ok(4)));
-        passes(rt, unit, 0, Ending::Spent, 0)?;
-        sees(rt, unit, mid, 2, 7)?;
-        sees(rt, unit, low, 1, 5)?;
-        passes(rt, unit, 9, Ending::Done, 1)?;
-        sees(rt, unit, low, 1, 0)?;
-        passes(rt, unit, 9, Ending::Done, 0)?;
-        refused(rt, unit.load(&[0; 8]), 12)?;
-        assert!(rt; unit.raise(0).is_ok());
-        passes(rt, unit, 9, Ending::Done, 0)?;
-        sees(rt, unit, mid, 2, 0)?;
-        assert!(rt; unit.lower(0).is_ok());
-        passes(rt, unit, 9, Ending::Done, 0)?;
-        sees(rt, unit, mid, 2, 7)?;
-        assert!(rt; matches!(unit.load(&[]), Ok(0)));
-        passes(rt, unit, 0, Ending::Done, 0)
+        Levels { low, mid }: Levels,
+    ) {
+        refused(rt, unit.pass(1), Rule::NeedsProgram);
+        assert_eq!(rt; unit.load(&PROGRAM), Ok(4));
+        assert_eq!(rt; unit.pass(0), Ok(Ending::Spent { used: 0 }));
+        assert_eq!(rt; unit.look(mid, 2), Ok(7));
+        assert_eq!(rt; unit.look(low, 1), Ok(5));
+        assert_eq!(rt; unit.pass(9), Ok(Ending::Done { used: 1 }));
+        assert_eq!(rt; unit.look(low, 1), Ok(0));
+        assert_eq!(rt; unit.pass(9), Ok(Ending::Done { used: 0 }));
+        refused(rt, unit.load(&[0; 8]), Rule::ProgramLetter);
+        assert_eq!(rt; unit.raise(0), Ok(()));
+        assert_eq!(rt; unit.pass(9), Ok(Ending::Done { used: 0 }));
+        assert_eq!(rt; unit.look(mid, 2), Ok(0));
+        assert_eq!(rt; unit.lower(0), Ok(()));
+        assert_eq!(rt; unit.pass(9), Ok(Ending::Done { used: 0 }));
+        assert_eq!(rt; unit.look(mid, 2), Ok(7));
+        assert_eq!(rt; unit.load(&[]), Ok(0));
+        assert_eq!(rt; unit.pass(0), Ok(Ending::Done { used: 0 }));
     }
 
-    fn holds(rt: &impl Abort, bytes: &[u8], place: usize, value: u8) -> Result<(), Fail> {
-        match bytes.get(place) {
-            Some(byte) => {
-                assert_eq!(rt; *byte, value);
-                Ok(())
-            },
-            None => {
-                assert!(rt; false);
-                Ok(())
-            },
-        }
-    }
-
-    // The image has so many bytes, and this value at this place; what follows it stays.
+    // Variable 2 holds 7. What follows the image in the buffer stays.
     fn images<L: Lattice, S: Store>(
         rt: &impl Abort,
         unit: &SiteBox<L, S>,
         level: u32,
-        size: usize,
-        place: usize,
-        value: u8,
-    ) -> Result<(), Fail> {
+        Image { size, place }: Image,
+    ) {
         let mut short = [170; 255];
-        refused(rt, unit.image(level, &mut short), 26)?;
-        holds(rt, &short, 0, 170)?;
+        refused(rt, unit.image(level, &mut short), Rule::RoomForImage);
+        assert_eq!(rt; short[0], 170);
         let mut buffer = [170; 400];
-        match unit.image(level, &mut buffer) {
-            Ok(count) => assert_eq!(rt; count, size),
-            Err(refusal) => assert_eq!(rt; refusal.number, 0),
+        assert_eq!(rt; unit.image(level, &mut buffer), Ok(size));
+        for (at, byte) in [
+            (place, 7),
+            (size.saturating_sub(1), 0),
+            (size, 170),
+            (399, 170),
+        ] {
+            assert_eq!(rt; buffer.get(at).copied(), Some(byte), "at {at}");
         }
-        holds(rt, &buffer, place, value)?;
-        holds(rt, &buffer, size.saturating_sub(1), 0)?;
-        holds(rt, &buffer, size, 170)?;
-        holds(rt, &buffer, 399, 170)
     }
 
     fn calls<L: Lattice + Drop, S: Store>(
         rt: &impl Abort,
         lattice: L,
         sheet: &[u8],
-        low: u32,
-        mid: u32,
-        size: usize,
-        place: usize,
-    ) -> Result<(), Fail> {
+        levels: Levels,
+        image: Image,
+    ) {
         let mut unit: SiteBox<L, S> = SiteBox::new(lattice);
-        before_a_sheet(rt, &mut unit)?;
-        assert!(rt; matches!(unit.sheet(sheet), Ok(3)));
-        refusals(rt, &mut unit, low, mid)?;
-        wiping(rt, &mut unit, low, mid)?;
-        refusals(rt, &mut unit, low, mid)?;
-        programs(rt, &mut unit, low, mid)?;
-        refusals(rt, &mut unit, low, mid)?;
-        images(rt, &unit, mid, size, place, 7)
+        before_a_sheet(rt, &mut unit);
+        assert_eq!(rt; unit.sheet(sheet), Ok(3));
+        refusals(rt, &mut unit, levels);
+        wiping(rt, &mut unit, levels);
+        refusals(rt, &mut unit, levels);
+        programs(rt, &mut unit, levels);
+        refusals(rt, &mut unit, levels);
+        images(rt, &unit, levels.mid, image);
+    }
+
+    const IN_DENSE: Image = Image {
+        size: 256,
+        place: 11,
+    };
+
+    const IN_SPARSE: Image = Image {
+        size: 320,
+        place: 4,
+    };
+
+    #[test]
+    fn on_a_chain(rt: HostRuntime) {
+        let chain = Chain { top: 3 };
+        let levels = Levels { low: 0, mid: 1 };
+        calls::<Chain, DenseStore>(&rt, chain, &ON_CHAIN, levels, IN_DENSE);
+        calls::<Chain, SparseStore>(&rt, chain, &ON_CHAIN, levels, IN_SPARSE);
     }
 
     #[test]
-    fn on_a_chain(rt: HostRuntime) -> Result<(), Fail> {
-        calls::<Chain, DenseStore>(&rt, Chain { top: 3 }, &ON_CHAIN, 0, 1, 256, 11)?;
-        calls::<Chain, SparseStore>(&rt, Chain { top: 3 }, &ON_CHAIN, 0, 1, 320, 4)
-    }
-
-    #[test]
-    fn on_sets_of_readers(rt: HostRuntime) -> Result<(), Fail> {
-        calls::<ReaderSets, DenseStore>(&rt, ReaderSets, &ON_READERS, 65_535, 3, 256, 11)?;
-        calls::<ReaderSets, SparseStore>(&rt, ReaderSets, &ON_READERS, 65_535, 3, 320, 4)
+    fn on_sets_of_readers(rt: HostRuntime) {
+        let levels = Levels {
+            low: 65_535,
+            mid: 3,
+        };
+        calls::<ReaderSets, DenseStore>(&rt, ReaderSets, &ON_READERS, levels, IN_DENSE);
+        calls::<ReaderSets, SparseStore>(&rt, ReaderSets, &ON_READERS, levels, IN_SPARSE);
     }
 }

@@ -1,48 +1,37 @@
-use Rattle.std.proofs.Common.{sym, refl, ap, ◌∙◌}
-use Rattle.machine.specs.Calls.{Answer}
-use Rattle.machine.specs.Machine.{answered}
-use Rattle.siteunit.proofs.Images.{all_readable, shown, too_short, has_room, front, fills, untouched}
-use Rattle.siteunit.proofs.Steps.{yes, noes, at, stays, obeys, accepts}
+use Rattle.std.proofs.Common.{◌≡◌, ◌++◌, Some, drop, ap, rules}
+use Rattle.siteunit.specs.Obeying.{front_of}
+use Rattle.siteunit.proofs.Images.{all_readable, too_short, shown, has_room, front}
+use Rattle.siteunit.proofs.Steps.{tells}
 use Rattle.siteunit.proofs.site.SiteBox.image.Goals as goal
 
-pub returns-then-not-all_below : goal.returns-then-not-all_below
-returns-then-not-all_below g c =
+pub returns-then-not-all_below-clause-obeys : goal.returns-then-not-all_below-clause-obeys
+returns-then-not-all_below-clause-obeys g c =
     let b = c.args.self.now in
-    let C = g.L.Lattice.lattice b.lattice in
-    let k = c.in-Some.sheet in
-    record {
-      obeys = obeys _ _ _ _ _ _ _ _ refl (λ e q. refl) (stays C g.S.Store.image b.sheet b.program k (g.S.Store.values b.store) b.up c.in-Some.is _ _ _ (ap Answer.refused c.into-then-not-all_below.ensures) (λ sh p K.
-          yes _ _ _ (sym c.if-not-known.ensures) ∙ noes _ _ _ (all_readable C sh k K c.args.level _ (sym c.if-not-all_below.ensures))));
-      fills = untouched _ _ _ _ refl;
-    }
+    let k = c.in_ok-sheet.sheet.now in
+    let is : b.sheet ≡ Some k = search rules in
+    tells g.L.Lattice.lattice g.S.Store.values g.S.Store.image b k is (front_of _) _ _
+    (λ sh p K. let all = all_readable _ sh k K c.in_ok-level.level in search rules)
 
-pub returns-then-buffer-size : goal.returns-then-buffer-size
-returns-then-buffer-size g c =
+pub returns-then-buffer-size-clause-obeys : goal.returns-then-buffer-size-clause-obeys
+returns-then-buffer-size-clause-obeys g c =
     let b = c.args.self.now in
-    let C = g.L.Lattice.lattice b.lattice in
-    let k = c.in-Some.sheet in
-    let xs = g.S.Store.values b.store in
-    record {
-      obeys = obeys _ _ _ _ _ _ _ _ refl (λ e q. refl) (stays C g.S.Store.image b.sheet b.program k xs b.up c.in-Some.is _ _ _ (ap Answer.refused c.into-then-buffer-size.ensures) (λ sh p K.
-          yes _ _ _ (sym c.if-not-known.ensures) ∙ yes _ _ _ (all_readable C sh k K c.args.level _ (sym c.if-not-all_below.ensures))
-          ∙ noes _ _ _ (too_short g.S.Store.image xs b.up (g.met.S.Store.long b.store) _ _ c.if-buffer-size.true c.image_len-size.ensures)));
-      fills = untouched _ _ _ _ refl;
-    }
+    let k = c.in_ok-sheet.sheet.now in
+    let is : b.sheet ≡ Some k = search rules in
+    let short = too_short g.S.Store.image (g.S.Store.values b.memory.store) b.memory.up (g.met.S.Store.long b.memory.store) _ _ c.if-buffer-size.true c.image_len-size.ensures in
+    tells g.L.Lattice.lattice g.S.Store.values g.S.Store.image b k is (front_of _) _ _
+    (λ sh p K. let all = all_readable _ sh k K c.in_ok-level.level in search rules)
 
-pub returns : goal.returns
-returns g c =
+pub returns-clause-obeys : goal.returns-clause-obeys
+returns-clause-obeys g c =
     let b = c.args.self.now in
-    let C = g.L.Lattice.lattice b.lattice in
-    let k = c.in-Some.sheet in
-    let xs = g.S.Store.values b.store in
+    let k = c.in_ok-sheet.sheet.now in
+    let is : b.sheet ≡ Some k = search rules in
+    let xs = g.S.Store.values b.memory.store in
     let image = g.S.Store.image in
-    let long = g.met.S.Store.long b.store in
-    let old = c.args.buffer.now in
+    let long = g.met.S.Store.long b.memory.store in
     let whole = c.image_len-size.ensures in
-    record {
-      obeys = obeys _ _ _ _ _ _ _ _ refl (λ e q. accepts e q) (stays C image b.sheet b.program k xs b.up c.in-Some.is _ _ _ (ap Answer.bytes (front (image xs) old _ _ whole c.draw.ensures)) (λ sh p K.
-          yes _ _ _ (sym c.if-not-known.ensures) ∙ yes _ _ _ (all_readable C sh k K c.args.level _ (sym c.if-not-all_below.ensures))
-          ∙ yes _ _ _ (has_room image xs b.up long _ _ c.if-buffer-size.false whole)
-          ∙ ap (λ bs. answered (at C image b.sheet b.program k xs b.up c.in-Some.is sh p) (Answer.bytes bs)) (shown image xs b.up long)));
-      fills = fills (image xs) old _ _ whole c.draw.ensures c.if-buffer-size.false;
-    }
+    let room = has_room image xs b.memory.up long _ _ c.if-buffer-size.false whole in
+    let same = shown image xs b.memory.up long in
+    let first = front (image xs) c.args.buffer.now _ _ whole (ap (λ bs. bs ++ drop c.image_len-size.result c.args.buffer.now) c.draw.ensures) in
+    tells g.L.Lattice.lattice g.S.Store.values g.S.Store.image b k is (front_of _) _ _
+    (λ sh p K. let all = all_readable _ sh k K c.in_ok-level.level in search rules)

@@ -1,18 +1,19 @@
-use Rattle.std.proofs.Common.{◌<◌, refl}
+use Rattle.std.proofs.Common.{◌≡◌, ◌<◌, ◌^◌, Some, refl, arith, rules}
 use Rattle.machine.specs.Memory.{lowered}
 use Rattle.machine.proofs.Memories.{memory_ext}
-use Rattle.interpreter.specs.Meaning.{memory_of}
-use Rattle.siteunit.proofs.Steps.{yes, moves, has_condition, obeys, accepts}
+use Rattle.interpreter.specs.Meaning.{meaning}
+use Rattle.siteunit.proofs.Lowering.{bit_without}
+use Rattle.siteunit.proofs.Steps.{changes}
 use Rattle.siteunit.proofs.site.SiteBox.lower.Goals as goal
 
 pub returns : goal.returns
 returns g c =
     let b = c.args.self.now in
-    let C = g.L.Lattice.lattice b.lattice in
-    let xs = g.S.Store.values b.store in
-    let k = c.in-Some.sheet in
+    let k = c.in_ok-sheet.sheet.now in
     let a = c.args.condition in
-    let d : a < k.masks.conditions = c.if-condition-sheet.false in
-    obeys _ _ _ _ _ _ _ _ refl (λ e q. accepts e q) (moves C g.S.Store.image b.sheet b.program k xs b.up c.in-Some.is _ xs _ (λ sh. lowered a (memory_of xs b.up))
-    (λ sh p K. yes _ _ _ (has_condition C sh k K a d))
-    (λ sh K. memory_ext _ (lowered a (memory_of xs b.up)) (λ v. refl) (λ i. c.without-self.ensures i)))
+    let is : b.sheet ≡ Some k = search rules in
+    let few : a < 16 = omega (arith, k.masks.counts.0) in
+    let small : b.memory.up < 2 ^ 16 = search rules in
+    let after = lowered a (meaning g.S.Store.values b.memory) in
+    changes g.L.Lattice.lattice g.S.Store.values g.S.Store.image b k is _ _ (λ sh. after) (λ sh p K. search rules)
+    (λ sh K. memory_ext _ after (λ v. refl) (λ i. bit_without a b.memory.up _ i few small c.condition_bit.ensures))

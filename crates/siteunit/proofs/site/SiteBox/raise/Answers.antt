@@ -1,18 +1,11 @@
-use Rattle.std.proofs.Common.{◌<◌, refl, arith}
-use Rattle.machine.specs.Memory.{raised}
-use Rattle.interpreter.specs.Meaning.{memory_of}
-use Rattle.siteunit.proofs.Steps.{yes, moves, has_condition, enforces, obeys, accepts}
+use Rattle.std.proofs.Common.{◌≡◌, ◌<◌, Some, arith, rules}
+use Rattle.siteunit.proofs.Steps.{changes, enforces}
 use Rattle.siteunit.proofs.site.SiteBox.raise.Goals as goal
 
 pub returns : goal.returns
 returns g c =
     let b = c.args.self.now in
-    let C = g.L.Lattice.lattice b.lattice in
-    let xs = g.S.Store.values b.store in
-    let k = c.in-Some.sheet in
-    let a = c.args.condition in
-    let d : a < k.masks.conditions = c.if-condition-sheet.false in
-    let few : a < 16 = omega (arith, k.masks.counts.0) in
-    obeys _ _ _ _ _ _ _ _ refl (λ e q. accepts e q) (moves C g.S.Store.image b.sheet b.program k xs b.up c.in-Some.is _ (g.S.Store.values c.raise.new.store) c.raise.new.up (λ sh. raised sh a (memory_of xs b.up))
-    (λ sh p K. yes _ _ _ (has_condition C sh k K a d))
-    (λ sh K. c.raise.ensures.memory sh (enforces C sh k K) few))
+    let k = c.in_ok-sheet.sheet.now in
+    let is : b.sheet ≡ Some k = search rules in
+    let few : c.args.condition < 16 = omega (arith, k.masks.counts.0) in
+    changes g.L.Lattice.lattice g.S.Store.values g.S.Store.image b k is c.raise.new.self _ _ (λ sh p K. search rules) (λ sh K. c.raise.ensures.memory sh (enforces _ sh k K) few)
