@@ -1,8 +1,8 @@
 -- A variable's record and its tree against the rules. Assumes nothing.
-use Rattle.std.proofs.Common.{◌≡◌, ℕ, ◌+◌, ◌<◌, ◌≤◌, Bool, true, false, not, ◌||◌, eqb, ltb, List, [], ◌∷◌, length, get_or, set, Ok, Err, sym, refl, ap, ◌∙◌, subst, ap₂, arith, length-set}
+use Rattle.std.proofs.Common.{◌≡◌, ℕ, ◌+◌, ◌<◌, ◌≤◌, Bool, true, false, not, ◌||◌, eqb, List, [], ◌∷◌, length, get_or, set, Ok, Err, sym, refl, ap, ◌∙◌, subst, ap₂, arith, length-set}
 use Rattle.std.proofs.lemmas.Grind.{common_steps}
 use Rattle.std.proofs.lemmas.List.{length-append}
-use Rattle.std.proofs.lemmas.Bool.{and_parts, eqb-true, ltb-true, both_ways}
+use Rattle.std.proofs.lemmas.Bool.{both_ways}
 use Rattle.lattice.specs.Lattice.{Lattice}
 use Rattle.records.specs.declared.Record.{Record}
 use Rattle.records.specs.declared.refusal.Refusal.{Refusal}
@@ -92,9 +92,7 @@ module _ (C : Lattice) (before : SheetTable) (place : ℕ) (r : Record) (rs : Li
       after = record { conditions = before.conditions; levels = before.levels; variables = before.variables + 1; rows = set before.rows before.variables row_after; permits = before.permits; grants = before.grants }
 
       small : before.variables < 64
-      small =
-          let i = and_parts (eqb r.a before.variables) (ltb r.a 64) (judged_ok variable_asked (eqb r.b 1) fed h).1.1.0 in
-          omega (arith, eqb-true r.a before.variables i.0, ltb-true r.a 64 i.1)
+      small = grind (arith, common_steps)
 
       builds_after : (sh : Sheet) → Builds before sh → Builds after (with_variable sh (record { policy = tr.policy; fed = fed }))
       builds_after sh b =
