@@ -1,7 +1,8 @@
 -- A valid sheet, written, is accepted. Assumes nothing.
-use Rattle.std.proofs.Common.{◌≡◌, ℕ, ◌+◌, ◌<◌, ◌≤◌, Bool, true, false, cond, not, ◌&&◌, ◌||◌, eqb, ltb, leb, List, [], ◌∷◌, ◌++◌, length, sym, refl, ap, ◌∙◌, subst, inl, inr, arith}
+use Rattle.std.proofs.Common.{◌≡◌, ℕ, ◌+◌, ◌<◌, ◌≤◌, Bool, true, cond, not, ◌&&◌, ◌||◌, eqb, ltb, leb, List, [], ◌∷◌, ◌++◌, length, sym, refl, ap, ◌∙◌, arith}
+use Rattle.std.proofs.lemmas.Grind.{common_steps}
 use Rattle.std.proofs.lemmas.List.{length-append, append_assoc, append-nil}
-use Rattle.std.proofs.lemmas.Bool.{le-leb, lt-ltb, eq-eqb, or_cases, eqb-true, and_from}
+use Rattle.std.proofs.lemmas.Bool.{le-leb, lt-ltb, and_from}
 use Rattle.records.specs.declared.Record.{Record}
 use Rattle.lattice.specs.Lattice.{Lattice}
 use Rattle.policy.specs.Policy.{Policy, leaf, erase, wipes, present_level}
@@ -33,23 +34,20 @@ module _ (C : Lattice) where
       ∙ ap (λ n. answer C (at n sh owner ds (λ ps. trees (erase c p q ∷ ps))) rest) (omega (arith, length-append (tree p) (tree q)))
 
   pub wipes_declared : (n d c : ℕ) (t : Policy) → WellFormed C n d t → wipes c t ≡ true → c < n
-  wipes_declared n d c (leaf l) g h = let z : ◌≡◌ {A = ℕ} 0 1 = cc h in absurd (omega arith)
-  wipes_declared n d c (erase e p q) g h =
-      elim (or_cases (eqb c e) (wipes c p) h) [ inl k ↦ subst (λ x. x < n) (sym (eqb-true c e k)) g.0 | inr k ↦ wipes_declared n (d + 1) c p g.2 k ]
+  wipes_declared n d c (leaf l) g h = cc h
+  wipes_declared n d c (erase e p q) g h = grind (arith, common_steps, wipes_declared n (d + 1) c p g.2)
 
   abbrev pub sheet_of : List ℕ → List Variable → List Permit → Sheet
   sheet_of cs vs ps = record { conditions = cs; variables = vs; permits = ps }
 
   next_is : (n k : ℕ) → n < k → (eqb n n && ltb n k) ≡ true
-  next_is n k h = and_from (eqb n n) (ltb n k) (eq-eqb n n refl) (lt-ltb n k h)
+  next_is n k h = grind (arith, common_steps)
 
   fed_fits : (f : Bool) → leb (cond f 1 0) 1 ≡ true
-  fed_fits true = refl
-  fed_fits false = refl
+  fed_fits f = grind (arith, common_steps)
 
   fed_back : (f : Bool) → eqb (cond f 1 0) 1 ≡ f
-  fed_back true = refl
-  fed_back false = refl
+  fed_back f = grind (arith, common_steps)
 
   -- `a` is what the rules answer after the section, wherever that is
   module _ (a : Reading Sheet) where

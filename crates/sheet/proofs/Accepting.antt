@@ -1,6 +1,6 @@
 -- What is accepted is a valid sheet, written. Assumes nothing.
-use Rattle.std.proofs.Common.{◌≡◌, ℕ, zero, suc, ◌+◌, ◌^◌, ◌<◌, ◌≤◌, true, false, cond, not, ◌&&◌, ◌||◌, eqb, ltb, leb, List, [], ◌∷◌, ◌++◌, length, sym, refl, ap, ◌∙◌, subst, inl, inr, arith}
-use native.Mathlib.Nat.{pow-le-pow_right, div-eq_of_lt}
+use Rattle.std.proofs.Common.{◌≡◌, ℕ, zero, suc, ◌+◌, ◌<◌, ◌≤◌, true, not, ◌&&◌, ◌||◌, eqb, ltb, List, [], ◌∷◌, ◌++◌, length, sym, refl, ap, ◌∙◌, subst, inl, inr, arith}
+use Rattle.std.proofs.lemmas.Grind.{common_steps}
 use Rattle.std.proofs.lemmas.List.{length-append, append_assoc, append-nil}
 use Rattle.std.proofs.lemmas.Bool.{leb-true, ltb-true, eqb-true, and_parts, cases_eq, cases_lt}
 use Rattle.records.specs.declared.Record.{Record}
@@ -18,6 +18,8 @@ use Rattle.sheet.proofs.Records.{leaf_is, node_is}
 use Rattle.sheet.proofs.Accepted.{sheet_of, wipes_declared}
 use Rattle.records.specs.Refusals.{refusal}
 use Rattle.records.specs.Records.{Each, Fit}
+use Rattle.records.proofs.Formats.{each_append}
+use Rattle.policy.proofs.Masks.{bit_high}
 use Rattle.records.proofs.Firsts.{refused_accepted, took_all, took_each, implied}
 use Rattle.records.specs.Rules.{Rule, rule, first, each_from, accepted}
 use Rattle.policy.specs.Masks.{bit}
@@ -100,10 +102,6 @@ module _ (C : Lattice) where
   abbrev Got : Sheet → List Record → Sheet → Type 0
   Got sh rs sh' = Good sh'.conditions sh'.variables sh'.permits × (written sh' ≡ written sh ++ rs)
 
-  each_more : {X : Type 0} (P : X → Type 0) (xs : List X) (x : X) → Each P xs → P x → Each P (xs ++ x ∷ [])
-  each_more P [] x e p = (p, tt)
-  each_more P (y ∷ xs) x e p = (e.0, each_more P xs x e.1 p)
-
   numbered_more : {X : Type 0} (f : ℕ → X → List Record) (i : ℕ) (xs : List X) (x : X) → numbered f i (xs ++ x ∷ []) ≡ numbered f i xs ++ f (i + length xs) x
   numbered_more f i [] x = append-nil (f i x) ∙ ap (λ n. f n x) (omega arith)
   numbered_more f i (y ∷ xs) x =
@@ -114,26 +112,23 @@ module _ (C : Lattice) where
   from_zero : {X : Type 0} (f : ℕ → X → List Record) (xs : List X) (x : X) → numbered f 0 (xs ++ x ∷ []) ≡ numbered f 0 xs ++ f (length xs) x
   from_zero f xs x = numbered_more f 0 xs x ∙ ap (λ n. numbered f 0 xs ++ f n x) (omega arith)
 
-  false_true : {X : Type 0} → false ≡ true → X
-  false_true h = let z : ◌≡◌ {A = ℕ} 0 1 = cc h in absurd (omega arith)
-
   condition_good : (cs : List ℕ) (l : ℕ) (vs : List Variable) (ps : List Permit) → (none vs && none ps) ≡ true → Good cs vs ps → length cs < 16 → Level C l → Good (cs ++ l ∷ []) vs ps
   condition_good cs l [] [] e g h k = record {
     counts = (omega (arith, length-append cs (l ∷ [])), omega arith, omega arith);
-    levels = each_more (Level C) cs l g.levels k;
+    levels = each_append (Level C) cs (l ∷ []) g.levels (k, tt);
     variables = tt;
     permits = tt;
   }
-  condition_good cs l [] (p ∷ ps) e g h k = false_true e
-  condition_good cs l (v ∷ vs) ps e g h k = false_true e
+  condition_good cs l [] (p ∷ ps) e g h k = cc e
+  condition_good cs l (v ∷ vs) ps e g h k = cc e
 
   condition_written : (cs : List ℕ) (l : ℕ) (vs : List Variable) (ps : List Permit) → (none vs && none ps) ≡ true
       → written (sheet_of C (cs ++ l ∷ []) vs ps) ≡ written (sheet_of C cs vs ps) ++ condition (length cs) l
   unfolding written
   condition_written cs l [] [] e =
       append-nil (numbered condition 0 (cs ++ l ∷ [])) ∙ from_zero condition cs l ∙ ap (λ x. x ++ condition (length cs) l) (sym (append-nil (numbered condition 0 cs)))
-  condition_written cs l [] (p ∷ ps) e = false_true e
-  condition_written cs l (v ∷ vs) ps e = false_true e
+  condition_written cs l [] (p ∷ ps) e = cc e
+  condition_written cs l (v ∷ vs) ps e = cc e
 
   variable_written : (cs : List ℕ) (vs : List Variable) (v : Variable) (ps : List Permit) → none ps ≡ true
       → written (sheet_of C cs (vs ++ v ∷ []) ps) ≡ written (sheet_of C cs vs ps) ++ variable (length vs) v
@@ -141,7 +136,7 @@ module _ (C : Lattice) where
   variable_written cs vs v [] e =
       ap (λ x. numbered condition 0 cs ++ x) (append-nil (numbered variable 0 (vs ++ v ∷ [])) ∙ from_zero variable vs v ∙ ap (λ x. x ++ variable (length vs) v) (sym (append-nil (numbered variable 0 vs))))
       ∙ sym (append_assoc (numbered condition 0 cs) (numbered variable 0 vs ++ []) (variable (length vs) v))
-  variable_written cs vs v (p ∷ ps) e = false_true e
+  variable_written cs vs v (p ∷ ps) e = cc e
 
   permit_written : (cs : List ℕ) (vs : List Variable) (ps : List Permit) (p : Permit) → written (sheet_of C cs vs (ps ++ p ∷ [])) ≡ written (sheet_of C cs vs ps) ++ permit (length ps) p
   unfolding written
@@ -155,21 +150,13 @@ module _ (C : Lattice) where
   after sh between sh' rs item rest w e g = (g.0, g.1 ∙ ap (λ x. x ++ rest) w ∙ append_assoc (written sh) item rest ∙ ap (λ x. written sh ++ x) (sym e))
 
   condition_is : (r : Record) (i : ℕ) → r.letter ≡ 67 → rest_zero r conditions ≡ true → r.a ≡ i → r ≡ condition_record i r.n
-  condition_is r i e h a = let p = and_parts (eqb r.b 0) (eqb r.c 0) h in λ j. record { letter = e j; a = a j; b = eqb-true r.b 0 p.0 j; c = eqb-true r.c 0 p.1 j; n = r.n }
+  condition_is r i e h a = grind (arith, common_steps)
 
   permit_is : (r : Record) (i : ℕ) → r.letter ≡ 82 → rest_zero r permits ≡ true → r.a ≡ i → r ≡ permit_record i r.n
-  permit_is r i e h a = let p = and_parts (eqb r.b 0) (eqb r.c 0) h in λ j. record { letter = e j; a = a j; b = eqb-true r.b 0 p.0 j; c = eqb-true r.c 0 p.1 j; n = r.n }
-
-  fed_is : (b : ℕ) → leb b 1 ≡ true → b ≡ cond (eqb b 1) 1 0
-  fed_is zero h = refl
-  fed_is (suc zero) h = refl
-  fed_is (suc (suc b)) h = absurd (omega (arith, leb-true (suc (suc b)) 1 h))
+  permit_is r i e h a = grind (arith, common_steps)
 
   variable_is : (r : Record) (i : ℕ) → r.letter ≡ 86 → rest_zero r variables ≡ true → r.a ≡ i → r ≡ variable_record i (eqb r.b 1)
-  variable_is r i e h a =
-      let p = and_parts (leb r.b 1) (eqb r.c 0 && eqb r.n 0) h in
-      let q = and_parts (eqb r.c 0) (eqb r.n 0) p.1 in
-      λ j. record { letter = e j; a = a j; b = fed_is r.b p.0 j; c = eqb-true r.c 0 q.0 j; n = eqb-true r.n 0 q.1 j }
+  variable_is r i e h a = grind (arith, common_steps)
 
   one_of : (n : ℕ) (ts : List Policy) → Matches n (1 ∷ []) ts → (p : Policy) × (ts ≡ p ∷ []) × WellFormed C n 1 p
   one_of n [] m = absurd m
@@ -182,14 +169,8 @@ module _ (C : Lattice) where
   two_of n (p ∷ q ∷ []) m = (p, q, refl, m.0, m.1.0)
   two_of n (p ∷ q ∷ t ∷ ts) m = absurd m.1.1
 
-  bit_high : (c m : ℕ) → m < 4294967296 → 32 ≤ c → bit c m ≡ false
-  unfolding bit
-  bit_high c m h k =
-      let p : 2 ^ 32 ≤ 2 ^ c = pow-le-pow_right (omega arith) k in
-      rw (div-eq_of_lt {n = m} {m = 2 ^ c} (omega (arith, p))) refl
-
   bit_low : (c m : ℕ) → m < 4294967296 → bit c m ≡ true → c < 32
-  bit_low c m h e = elim (cases_lt c 32) [ inl l ↦ l | inr l ↦ false_true (sym (bit_high c m h l) ∙ e) ]
+  bit_low c m h e = elim (cases_lt c 32) [ inl l ↦ l | inr l ↦ cc (sym (bit_high 32 c m h l) ∙ e) ]
 
   shorter : (xs ys rs : List Record) → rs ≡ xs ++ ys → length ys ≤ length rs
   shorter xs ys rs e = omega (arith, ap length e, length-append xs ys)
@@ -234,8 +215,8 @@ module _ (C : Lattice) where
               record {
                 counts = (g.counts.0, omega (arith, length-append vs (v ∷ []), q, m), g.counts.2);
                 levels = g.levels;
-                variables = each_more (ValidVariable C (sheet_of C cs [] [])) vs v g.variables
-                    (o.2, λ c s. implied (wipes c p) (C.below (level_of (sheet_of C cs vs ps) c) (present_level C p)) (nine.0 c (omega arith) (omega (arith, d c p o.2 s, g.counts.0))) s);
+                variables = each_append (ValidVariable C (sheet_of C cs [] [])) vs (v ∷ []) g.variables
+                    ((o.2, λ c s. implied (wipes c p) (C.below (level_of (sheet_of C cs vs ps) c) (present_level C p)) (nine.0 c (omega arith) (omega (arith, d c p o.2 s, g.counts.0))) s), tt);
                 permits = g.permits;
               }
               nine.1)
@@ -263,8 +244,8 @@ module _ (C : Lattice) where
                   counts = (g.counts.0, g.counts.1, omega (arith, length-append ps (p ∷ []), q, m));
                   levels = g.levels;
                   variables = g.variables;
-                  permits = each_more (ValidPermit C (sheet_of C cs [] [])) ps p g.permits
-                      (f.0, λ c x. ltb-true c (length cs) (implied (bit c r.n) (declared_condition (sheet_of C cs vs ps) c) (y.0 c (omega arith) (bit_low c r.n f.0 x)) x), o.3, o.4);
+                  permits = each_append (ValidPermit C (sheet_of C cs [] [])) ps (p ∷ []) g.permits
+                      ((f.0, λ c x. ltb-true c (length cs) (implied (bit c r.n) (declared_condition (sheet_of C cs vs ps) c) (y.0 c (omega arith) (bit_low c r.n f.0 x)) x), o.3, o.4), tt);
                 }
                 (sym (closing.settle C b.place (sheet_of C cs vs ps) owner (λ qs. s ∷ t ∷ qs) b.rest) ∙ go))
             | inr n82 ↦ refused_accepted (refusal 3 place 0) sh' (sym (closing.stranger C place (sheet_of C cs vs ps) r rs n67 n86 n82) ∙ h)

@@ -1,7 +1,8 @@
 -- Any item of a sheet against the rules. Assumes nothing.
-use Rattle.std.proofs.Common.{◌≡◌, ℕ, ◌+◌, ◌<◌, false, ◌&&◌, eqb, ltb, List, [], ◌∷◌, length, set, Ok, Err, sym, refl, ap, ◌∙◌, ap₂, inl, inr, arith, length-set}
+use Rattle.std.proofs.Common.{◌≡◌, ℕ, ◌+◌, ◌<◌, false, ◌&&◌, List, [], ◌∷◌, length, set, Ok, Err, sym, refl, ap, ◌∙◌, ap₂, inl, inr, arith, length-set}
+use Rattle.std.proofs.lemmas.Grind.{common_steps}
 use Rattle.std.proofs.lemmas.List.{length-append}
-use Rattle.std.proofs.lemmas.Bool.{and_parts, eqb-true, ltb-true, cases_eq, cond-false}
+use Rattle.std.proofs.lemmas.Bool.{cases_eq, cond-false}
 use Rattle.lattice.specs.Lattice.{Lattice}
 use Rattle.records.specs.declared.Record.{Record}
 use Rattle.records.specs.declared.refusal.Refusal.{Refusal}
@@ -18,12 +19,10 @@ use Rattle.sheet.proofs.Tables.{grows}
 use Rattle.sheet.proofs.VariableSteps.{nothing}
 
 something : {X : Type 0} (xs : List X) → (length xs ≡ 0 → ⊥) → none xs ≡ false
-something [] e = absurd (e refl)
-something (x ∷ xs) e = refl
+something xs e = grind (arith, common_steps)
 
 late : (xs : List Variable) (ys : List Permit) → (length xs ≡ 0 → length ys ≡ 0 → ⊥) → (none xs && none ys) ≡ false
-late [] ys f = something ys (f refl)
-late (x ∷ xs) ys f = refl
+late xs ys f = grind (arith, common_steps)
 
 module _ (C : Lattice) (before : SheetTable) (place : ℕ) (r : Record) (rs : List Record) where
   -- a letter that may not stand here
@@ -65,9 +64,7 @@ module _ (C : Lattice) (before : SheetTable) (place : ℕ) (r : Record) (rs : Li
       }
 
       pub small : before.conditions < 16
-      small =
-          let i = and_parts (eqb r.a before.conditions) (ltb r.a 16) (judged_ok condition_asked r.n level h).1.1.0 in
-          omega (arith, eqb-true r.a before.conditions i.0, ltb-true r.a 16 i.1)
+      small = grind (arith, common_steps)
 
       pub condition_read : ItemRead C before after place r rs (place + 1) rs
       condition_read = record {

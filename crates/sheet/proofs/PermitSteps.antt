@@ -1,7 +1,7 @@
 -- A permit's record and its trees against the rules. Assumes nothing.
-use Rattle.std.proofs.Common.{◌≡◌, ℕ, ◌+◌, ◌<◌, ◌≤◌, eqb, ltb, List, [], ◌∷◌, length, set, Ok, Err, sym, refl, ap, ◌∙◌, subst, arith, length-set}
+use Rattle.std.proofs.Common.{◌≡◌, ℕ, ◌+◌, ◌<◌, ◌≤◌, List, [], ◌∷◌, length, set, Ok, Err, sym, refl, ap, ◌∙◌, subst, arith, length-set}
+use Rattle.std.proofs.lemmas.Grind.{common_steps}
 use Rattle.std.proofs.lemmas.List.{length-append}
-use Rattle.std.proofs.lemmas.Bool.{and_parts, eqb-true, ltb-true}
 use Rattle.lattice.specs.Lattice.{Lattice}
 use Rattle.records.specs.declared.Record.{Record}
 use Rattle.records.specs.declared.refusal.Refusal.{Refusal}
@@ -65,9 +65,7 @@ module _ (C : Lattice) (before : SheetTable) (place : ℕ) (r : Record) (rs : Li
           after = record { conditions = before.conditions; levels = before.levels; variables = before.variables; rows = before.rows; permits = before.permits + 1; grants = set before.grants before.permits grant }
 
           small : before.permits < 8
-          small =
-              let i = and_parts (eqb r.a before.permits) (ltb r.a 8) (judged_ok permit_asked r.n mask h).1.1.0 in
-              omega (arith, eqb-true r.a before.permits i.0, ltb-true r.a 8 i.1)
+          small = grind (arith, common_steps)
 
           holds : (row : Row) (start : ℕ) (xs ys : List Record) (last : ℕ) (tr : TreeRead C before.conditions start 1 0 xs blank row last ys) → before.conditions ≤ 16 → Holds row tr.policy
           holds row start xs ys last tr m = subst (λ x. Holds x tr.policy) (sym tr.row) (filled_holds before.conditions tr.policy m tr.shaped)

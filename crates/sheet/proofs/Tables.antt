@@ -1,7 +1,5 @@
 -- Tables of a sheet. Assumes nothing.
-use Rattle.std.proofs.Common.{◌≡◌, ℕ, ◌<◌, ◌≤◌, List, [], ◌∷◌, ◌++◌, length, get_or, set, replicate, sym, refl, ap, ◌∙◌, subst, inl, inr, arith}
-use Rattle.std.proofs.lemmas.List.{length-append, get_or_append_left, get_or-set_same, get_or-set_other}
-use Rattle.std.proofs.lemmas.Bool.{cases_eq}
+use Rattle.std.proofs.Common.{◌≡◌, ℕ, ◌<◌, ◌≤◌, List, [], ◌∷◌, ◌++◌, length, get_or, set, replicate, refl, ap, ◌∙◌, arith}
 use Rattle.std.proofs.lemmas.Grind.{common_steps}
 use Rattle.std.specs.Array.{AllOfLen}
 use Rattle.policy.specs.declared.row.Row.{Row}
@@ -37,14 +35,7 @@ at_end xs x d = grind (arith, common_steps)
 -- one more in a table and in a list
 pub grows : {X Y : Type 0} (R : Y → X → Type 0) (ys : List Y) (xs : List X) (y dy : Y) (x dx : X) (n : ℕ) → n ≡ length xs → n < length ys
     → ((k : ℕ) → k < length xs → R (get_or ys k dy) (get_or xs k dx)) → R y x → (k : ℕ) → k < length (xs ++ x ∷ []) → R (get_or (set ys n y) k dy) (get_or (xs ++ x ∷ []) k dx)
-grows R ys xs y dy x dx n e l f p k h =
-    elim (cases_eq k n) [
-      | inl q ↦ subst (λ j. R (get_or (set ys n y) j dy) (get_or (xs ++ x ∷ []) j dx)) (sym q)
-          (subst (λ z. R z (get_or (xs ++ x ∷ []) n dx)) (sym (get_or-set_same ys n y dy l)) (subst (λ z. R y z) (sym (ap (λ j. get_or (xs ++ x ∷ []) j dx) e ∙ at_end xs x dx)) p))
-      | inr q ↦
-          let lt : k < length xs = omega (arith, h, e, q, length-append xs (x ∷ [])) in
-          subst (λ z. R z (get_or (xs ++ x ∷ []) k dx)) (sym (get_or-set_other ys n k y dy q)) (subst (λ z. R (get_or ys k dy) z) (sym (get_or_append_left xs (x ∷ []) dx k lt)) (f k lt))
-    ]
+grows R ys xs y dy x dx n e l f p k h = grind (arith, common_steps, f k)
 
 -- the places beyond the last item stay as they were
 pub stays_beyond : {X Y : Type 0} (ys : List Y) (xs : List X) (y d : Y) (x : X) (n : ℕ) → n ≡ length xs → ((k : ℕ) → length xs ≤ k → get_or ys k d ≡ d) → (k : ℕ) → length (xs ++ x ∷ []) ≤ k → get_or (set ys n y) k d ≡ d

@@ -1,7 +1,8 @@
 -- A variable's record and its tree against the rules. Assumes nothing.
-use Rattle.std.proofs.Common.{◌≡◌, ℕ, ◌+◌, ◌<◌, ◌≤◌, Bool, true, false, not, ◌||◌, eqb, ltb, List, [], ◌∷◌, length, get_or, set, Ok, Err, sym, refl, ap, ◌∙◌, subst, ap₂, inl, inr, arith, length-set}
+use Rattle.std.proofs.Common.{◌≡◌, ℕ, ◌+◌, ◌<◌, ◌≤◌, Bool, true, false, not, ◌||◌, eqb, List, [], ◌∷◌, length, get_or, set, Ok, Err, sym, refl, ap, ◌∙◌, subst, ap₂, arith, length-set}
+use Rattle.std.proofs.lemmas.Grind.{common_steps}
 use Rattle.std.proofs.lemmas.List.{length-append}
-use Rattle.std.proofs.lemmas.Bool.{and_parts, eqb-true, ltb-true, or_cases, both_ways}
+use Rattle.std.proofs.lemmas.Bool.{both_ways}
 use Rattle.lattice.specs.Lattice.{Lattice}
 use Rattle.records.specs.declared.Record.{Record}
 use Rattle.records.specs.declared.refusal.Refusal.{Refusal}
@@ -24,13 +25,11 @@ use Rattle.sheet.proofs.Closed as closing
 use Rattle.sheet.proofs.Tables.{grows, stays_beyond}
 
 pub nothing : {X : Type 0} (xs : List X) → length xs ≡ 0 → xs ≡ []
-nothing [] e = refl
-nothing (x ∷ xs) e = absurd (omega arith)
+nothing xs e = grind (arith, common_steps)
 
 wipes_shaped : (n d c : ℕ) (t : Policy) → Shaped n d t → wipes c t ≡ true → c < n
 wipes_shaped n d c (leaf l) g h = absurd (both_ways false refl h)
-wipes_shaped n d c (erase e p q) g h =
-    elim (or_cases (eqb c e) (wipes c p) h) [ inl k ↦ subst (λ x. x < n) (sym (eqb-true c e k)) g.0 | inr k ↦ wipes_shaped n (d + 1) c p g.2 k ]
+wipes_shaped n d c (erase e p q) g h = grind (arith, common_steps, wipes_shaped n (d + 1) c p g.2)
 
 -- rule 9 of the policy is rule 9 of its row
 module _ (n : ℕ) (t : Policy) (row : Row) (s : Shaped n 1 t) (h : Holds row t) where
@@ -93,9 +92,7 @@ module _ (C : Lattice) (before : SheetTable) (place : ℕ) (r : Record) (rs : Li
       after = record { conditions = before.conditions; levels = before.levels; variables = before.variables + 1; rows = set before.rows before.variables row_after; permits = before.permits; grants = before.grants }
 
       small : before.variables < 64
-      small =
-          let i = and_parts (eqb r.a before.variables) (ltb r.a 64) (judged_ok variable_asked (eqb r.b 1) fed h).1.1.0 in
-          omega (arith, eqb-true r.a before.variables i.0, ltb-true r.a 64 i.1)
+      small = grind (arith, common_steps)
 
       builds_after : (sh : Sheet) → Builds before sh → Builds after (with_variable sh (record { policy = tr.policy; fed = fed }))
       builds_after sh b =

@@ -1,7 +1,7 @@
 // A record where it stands in a sheet.
 ghost use Rattle.std.specs.Prelude.{◌≡◌, ◌+◌, ◌<◌, [], ◌∷◌, length, MatchOption, ◌==◌, ◌&&◌, nat_lt};
 ghost use Rattle.records.specs.Records.{records};
-ghost use Rattle.records.specs.Rules.{judged};
+ghost use Rattle.records.specs.Rules.{judged, rule};
 ghost use Rattle.sheet.specs.Checks.{numbered_rules};
 
 use records::{Cursor, Record, Refusal, Rule};
@@ -32,12 +32,15 @@ impl<'a> Placed<'a> {
         })
     }
 
-    // Whether the record has the next number after so many of its kind, of which there may be so many.
-    pub(crate) fn is_next(self, count: usize, limit: usize) -> bool
-        ensures { result ≡ (self.entry.record.a == count && nat_lt self.entry.record.a limit) }
+    // The record has the next number after so many of its kind, of which there may be so many.
+    pub(crate) fn check_number(self, count: usize, limit: usize) -> Result<(), Refusal>
+        ensures { result ≡ judged (rule 5 self.entry.place 0 (self.entry.record.a == count && nat_lt self.entry.record.a limit) ∷ []) tt }
     {
         let number = self.record.a as usize;
-        number == count && number < limit
+        if number != count || number >= limit {
+            return Err(Rule::NextNumber.at(self.place, 0));
+        }
+        Ok(())
     }
 
     // The named field of a condition or a permit, which has the next number after so many of its kind.
@@ -48,9 +51,7 @@ impl<'a> Placed<'a> {
         if record.b != 0 || record.c != 0 {
             return Err(Rule::SheetFields.at(self.place, 0));
         }
-        if !self.is_next(count, limit) {
-            return Err(Rule::NextNumber.at(self.place, 0));
-        }
+        self.check_number(count, limit)?;
         Ok(record.n)
     }
 }

@@ -26,13 +26,10 @@ impl SheetTable {
     pub(crate) fn section(&self) -> Section
         ensures { result ≡ section self.now.variables self.now.permits }
     {
-        if self.permits > 0 {
-            return Section::Permits;
-        }
-        if self.variables > 0 {
-            Section::Variables
-        } else {
-            Section::Conditions
+        match (self.variables, self.permits) {
+            (0, 0) => Section::Conditions,
+            (_, 0) => Section::Variables,
+            _ => Section::Permits,
         }
     }
 }

@@ -21,9 +21,7 @@ fn check_variable(item: Placed, count: usize) -> Result<bool, Refusal>
     if record.b > 1 || record.c != 0 || record.n != 0 {
         return Err(Rule::SheetFields.at(item.place, 0));
     }
-    if !item.is_next(count, 64) {
-        return Err(Rule::NextNumber.at(item.place, 0));
-    }
+    item.check_number(count, 64)?;
     Ok(record.b == 1)
 }
 
