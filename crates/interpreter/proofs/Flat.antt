@@ -67,12 +67,12 @@ module _ (rs : List Instruction) (count : ℕ) (sh : Sheet) where
       let b : u' ≡ u = cc in
       let d : n' ≡ n = cc in
       subst (λ (i : ℕ). Flat i u n e) a (subst (λ (i : ℕ). Flat q' i n e) b (subst (λ i. Flat q' u' i e) d f))
-  step (halt h y) l x = let z : ◌≡◌ {A = ℕ} 0 1 = cc in absurd (omega arith)
+  step (halt h y) l x = cc
 
   pub here : {p t q u : ℕ} {m n : Memory} {e : Ending} → Flat p t m e → p < count → next sh (get_or rs p unset) p t m ≡ goes q u n → Placed (plain (get_or rs p unset))
   here (over h) l x = absurd (omega arith)
   here (on h k y f) l x = k
-  here (halt h y) l x = let z : ◌≡◌ {A = ℕ} 0 1 = cc in absurd (omega arith)
+  here (halt h y) l x = cc
 
   -- these instructions stand in the program, from position p on
   abbrev pub Part : ℕ → List Instruction → Type 0
