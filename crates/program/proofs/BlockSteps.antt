@@ -6,6 +6,7 @@ use Rattle.std.proofs.lemmas.Bool.{cond-false, lt-ltb}
 use Rattle.lattice.specs.Lattice.{Lattice}
 use Rattle.records.specs.declared.Record.{Record}
 use Rattle.records.specs.declared.refusal.Refusal.{Refusal}
+use Rattle.records.specs.declared.cursor.Cursor.{Cursor}
 use Rattle.records.specs.Refusals.{refusal}
 use Rattle.sheet.specs.Sheet.{Sheet}
 use Rattle.machine.specs.Command.{Command, skip, ◌⨾◌, set, combine, release, raise, if_variable, if_condition, while}
@@ -24,10 +25,11 @@ use Rattle.program.specs.Keeping.{kept_as}
 use Rattle.program.specs.Rules.{Test, on_variable, on_condition, branch, Block, then_block, else_block, loop_block, at, Kind, kind, sets, signs, releases, raises, loops, none, established, answer}
 use Rattle.program.specs.Contexts.{with_variable, with_conditions, inside_of}
 use Rattle.program.specs.Letters.{innermost_of}
-use Rattle.program.specs.Reading.{context_of, Declared, Alike, Refused, Named, Passed, opening, Branches, Stand, Reads, Ends, BlockRead, end_bytes}
+use Rattle.program.specs.Reading.{context_of, Declared, Alike, Refused, Named, Passed, opening, Branches, Stand, Reads, BlockRead, end_of}
+use Rattle.program.specs.Forward.{SameEnd, BlockForward}
 use Rattle.program.proofs.ContextMasks.{masked_variable, masked_condition}
 use Rattle.program.proofs.LetterSteps.{kept_sign-of, kind_found}
-use Rattle.program.proofs.Reaches.{declared_variable_lem, declared_condition_lem}
+use Rattle.program.proofs.Reaches.{declared_variable, declared_condition}
 use Rattle.program.proofs.Steps as steps
 
 -- ── where instructions stand ──
@@ -106,17 +108,30 @@ module _ (m : FlowMasks) (pc : Masks) (opened : ℕ) (inner : Option Innermost) 
 
 -- ── where a block ends ──
 
+pub forward_ended : (inner : Option Innermost) (a b : Cursor) → inner ≡ None → SameEnd a b → a.place ≤ b.place → length b.left.now < 8 → BlockForward inner a b
+forward_ended None a b e s l h = (s, l, h)
+forward_ended (Some i) a b e s l h = absurd (cc e)
+
 module _ (m : FlowMasks) (pc : Masks) (opened : ℕ) where
-  pub ends_mark : (inner : Option Innermost) (place : ℕ) (r : Record) (left rest : List Record) → left ≡ r ∷ rest → Passed m pc opened inner place r Mark → Ends m pc opened inner place left rest
-  ends_mark None place r left rest e p = absurd (kind_found (Some Mark) r.letter None p.is)
-  ends_mark (Some i) place r left rest e p = (r, e, p)
+  pub block_marked : (inner : Option Innermost) {start place next : ℕ} {rs left rest : List Record} {xs ys : List Instruction} (r : Record) → Passed m pc opened inner place r Mark
+      → Reads m pc opened inner start rs xs ys place left → left ≡ r ∷ rest → next ≡ place + 1 → BlockRead m pc opened inner start rs xs ys (end_of inner next) rest
+  block_marked None r p R e n = absurd (kind_found (Some Mark) r.letter None p.is)
+  block_marked (Some i) {start = start} {place = place} {next = next} {rs = rs} {left = left} {xs = xs} {ys = ys} r p R e n =
+      let q : place ≡ next - 1 = omega arith in
+      record {
+        left = left;
+        reads = subst (λ k. Reads m pc opened (Some i) start rs xs ys k left) q R;
+        ends = (r, e, subst (λ k. Passed m pc opened (Some i) k r Mark) q p);
+      }
 
-  pub mark_bytes : (inner : Option Innermost) (place : ℕ) (r : Record) → Passed m pc opened inner place r Mark → end_bytes inner ≡ 8
-  mark_bytes None place r p = absurd (kind_found (Some Mark) r.letter None p.is)
-  mark_bytes (Some i) place r p = refl
+  pub forward_marked : (inner : Option Innermost) {place : ℕ} (a b : Cursor) (r : Record) → Passed m pc opened inner place r Mark → SameEnd a b → a.place < b.place → BlockForward inner a b
+  forward_marked None a b r p e l = absurd (kind_found (Some Mark) r.letter None p.is)
+  forward_marked (Some i) a b r p e l = (e, l)
 
-  pub ends_outermost : (inner : Option Innermost) (place : ℕ) (left rest : List Record) → inner ≡ None → left ≡ [] → Ends m pc opened inner place left rest
-  ends_outermost inner place left rest e q = subst (λ i. Ends m pc opened i place left rest) (sym e) q
+  pub block_ended : (inner : Option Innermost) {start place : ℕ} {rs left : List Record} {xs ys : List Instruction} → inner ≡ None → Reads m pc opened inner start rs xs ys place left → left ≡ []
+      → BlockRead m pc opened inner start rs xs ys (end_of inner place) left
+  block_ended None {left = left} e R l = record { left = left; reads = R; ends = l }
+  block_ended (Some i) e R l = absurd (cc e)
 
   some_block : {i : Innermost} (blocks : List Block) → innermost_of blocks ≡ Some i → none blocks ≡ false
   some_block [] h = cc
@@ -226,7 +241,7 @@ module _ (m : FlowMasks) (pc : Masks) (opened : ℕ) (inner : Option Innermost) 
     lawful = A.lawful;
     usable = A.usable;
     masks = A.masks;
-    declared = subst (Declared sh) (sym e) (declared_variable_lem sh pc r.b (omega (arith, tested_there, m.counts)) (subst (λ n. ltb r.b n ≡ true) A.masks.variables (lt-ltb r.b m.variables tested_there)) A.declared);
+    declared = subst (λ x. Declared sh (context_of x)) (sym e) (declared_variable sh pc r.b (omega (arith, tested_there, m.counts)) (subst (λ n. ltb r.b n ≡ true) A.masks.variables (lt-ltb r.b m.variables tested_there)) A.declared);
     depth = deeper blocks (loop_block r.b (context_of pc) around) opened A.depth;
     innermost = refl;
   }
@@ -293,7 +308,7 @@ module _ (m : FlowMasks) (pc : Masks) (opened : ℕ) (inner : Option Innermost) 
       record {
         opens = λ n. refl;
         under = masked_variable r.b pc.variables pc.conditions small ∙ ap context_of (sym e);
-        declared = λ C sh blocks A. subst (Declared sh) (sym e) (declared_variable_lem sh pc r.b small (subst (λ n. ltb r.b n ≡ true) A.masks.variables (lt-ltb r.b m.variables v)) A.declared);
+        declared = λ C sh blocks A. subst (λ x. Declared sh (context_of x)) (sym e) (declared_variable sh pc r.b small (subst (λ n. ltb r.b n ≡ true) A.masks.variables (lt-ltb r.b m.variables v)) A.declared);
         goes = λ C sh blocks around A rs. p.goes C sh blocks around A rs ∙ ap (λ x. answer C sh (established (at place blocks (context_of pc) around) r x) rs) q;
       }
 
@@ -305,7 +320,7 @@ module _ (m : FlowMasks) (pc : Masks) (opened : ℕ) (inner : Option Innermost) 
       record {
         opens = λ n. refl;
         under = masked_condition r.a pc.variables pc.conditions small ∙ ap context_of (sym e);
-        declared = λ C sh blocks A. subst (Declared sh) (sym e) (declared_condition_lem sh pc r.a small (subst (λ n. ltb r.a n ≡ true) A.masks.conditions (lt-ltb r.a m.conditions v)) A.declared);
+        declared = λ C sh blocks A. subst (λ x. Declared sh (context_of x)) (sym e) (declared_condition sh pc r.a small (subst (λ n. ltb r.a n ≡ true) A.masks.conditions (lt-ltb r.a m.conditions v)) A.declared);
         goes = λ C sh blocks around A rs. p.goes C sh blocks around A rs ∙ ap (λ x. answer C sh (established (at place blocks (context_of pc) around) r x) rs) q;
       }
 
@@ -343,12 +358,6 @@ module _ (m : FlowMasks) (pc : Masks) (opened : ℕ) (inner : Option Innermost) 
       → answer C sh (at place blocks (context_of pc) around) (r ∷ rs) ≡ answer C sh (at (place + 1) (then_block t (context_of pc) around ∷ blocks) (context_of inside) (λ c. c)) rs
   test_opens C sh blocks around A = T.goes C sh blocks around A rs ∙ ap (λ x. answer C sh (at (place + 1) (then_block t (context_of pc) around ∷ blocks) x (λ c. c)) rs) T.under
 
-  pub first_refused : (x : Refusal) → Refused m inside (opened + 1) (Some First) (place + 1) rs x → Refused m pc opened inner place (r ∷ rs) x
-  first_refused x f = record {
-    says = λ C sh blocks around A.
-        test_opens C sh blocks around A ∙ f.says C sh (then_block t (context_of pc) around ∷ blocks) (λ c. c) (within C sh blocks (then_block t (context_of pc) around) (Some First) refl A);
-  }
-
   module _ (xs ys : List Instruction) (middle : ℕ) (second : List Record) (B : BlockRead m inside (opened + 1) (Some First) (place + 1) rs xs ys middle second) where
     abbrev then_block_lem : Command
     then_block_lem = body B.reads
@@ -364,12 +373,6 @@ module _ (m : FlowMasks) (pc : Masks) (opened : ℕ) (inner : Option Innermost) 
         ∙ mark.goes C sh bs (λ c. B.reads.commands c) A' second
         ∙ ap (λ x. answer C sh (established (at middle bs (context_of inside) (λ c. B.reads.commands c)) k x) second) (kind_found (Some Mark) k.letter (Some First) mark.is)
         ∙ ap (λ x. answer C sh (at (middle + 1) (else_block t then_block_lem (context_of pc) around ∷ blocks) x (λ c. c)) second) T.under
-
-    pub second_refused : (x : Refusal) → Refused m inside (opened + 1) (Some Second) (middle + 1) second x → Refused m pc opened inner place (r ∷ rs) x
-    second_refused x f = record {
-      says = λ C sh blocks around A.
-          test_turns C sh blocks around A ∙ f.says C sh (else_block t then_block_lem (context_of pc) around ∷ blocks) (λ c. c) (within C sh blocks (else_block t then_block_lem (context_of pc) around) (Some Second) refl A);
-    }
 
     module _ (zs : List Instruction) (end : ℕ) (rest : List Record) (D : BlockRead m inside (opened + 1) (Some Second) (middle + 1) second ys zs end rest) where
       abbrev else_block_lem : Command
@@ -421,14 +424,31 @@ module _ (m : FlowMasks) (pc : Masks) (opened : ℕ) (inner : Option Innermost) 
             goes = branch_goes;
           }
 
--- ── equal contexts and kinds ──
+-- ── equal places, contexts, masks and kinds ──
 
-module _ (m : FlowMasks) {pc pc' : Masks} (opened : ℕ) (inner : Option Innermost) (e : pc ≡ pc') where
-  pub passed_under : {place : ℕ} {r : Record} {k k' : RecordKind} → k ≡ k' → Passed m pc opened inner place r k → Passed m pc' opened inner place r k'
-  passed_under {place = place} {r = r} {k = k} {k' = k'} f h = subst (λ x. Passed m x opened inner place r k') e (subst (λ x. Passed m pc opened inner place r x) f h)
+module _ (m : FlowMasks) (pc : Masks) (opened : ℕ) (inner : Option Innermost) {p q : ℕ} (e : p ≡ q) where
+  pub refused_at : {rs : List Record} {x : Refusal} → Refused m pc opened inner p rs x → Refused m pc opened inner q rs x
+  refused_at {rs = rs} {x = x} h = subst (λ n. Refused m pc opened inner n rs x) e h
 
-  pub refused_under : {place : ℕ} {rs : List Record} {x : Refusal} → Refused m pc opened inner place rs x → Refused m pc' opened inner place rs x
-  refused_under {place = place} {rs = rs} {x = x} h = subst (λ y. Refused m y opened inner place rs x) e h
+  pub block_at : {next : ℕ} {rs rest : List Record} {xs ys : List Instruction} → BlockRead m pc opened inner p rs xs ys next rest → BlockRead m pc opened inner q rs xs ys next rest
+  block_at {next = next} {rs = rs} {rest = rest} {xs = xs} {ys = ys} h = subst (λ n. BlockRead m pc opened inner n rs xs ys next rest) e h
 
-  pub reads_under : {place next : ℕ} {rs left : List Record} {xs ys : List Instruction} → Reads m pc opened inner place rs xs ys next left → Reads m pc' opened inner place rs xs ys next left
-  reads_under {place = place} {next = next} {rs = rs} {left = left} {xs = xs} {ys = ys} h = subst (λ y. Reads m y opened inner place rs xs ys next left) e h
+  pub reads_to : {place : ℕ} {rs left : List Record} {xs ys : List Instruction} → Reads m pc opened inner place rs xs ys p left → Reads m pc opened inner place rs xs ys q left
+  reads_to {place = place} {rs = rs} {left = left} {xs = xs} {ys = ys} h = subst (λ n. Reads m pc opened inner place rs xs ys n left) e h
+
+pub block_kept : {m : FlowMasks} {pc : Masks} {opened place next : ℕ} {inner : Option Innermost} {rs rest : List Record} {xs ys zs : List Instruction}
+    → BlockRead m pc opened inner place rs xs ys next rest → ys ≡ zs → BlockRead m pc opened inner place rs xs zs next rest
+block_kept {m} {pc} {opened} {place} {next} {inner} {rs} {rest} {xs} {ys} {zs} h e = subst (λ l. BlockRead m pc opened inner place rs xs l next rest) e h
+
+module _ {m m' : FlowMasks} (d : m ≡ m') {pc pc' : Masks} (opened : ℕ) (inner : Option Innermost) (e : pc ≡ pc') where
+  pub passed_under : {place : ℕ} {r : Record} {k k' : RecordKind} → k ≡ k' → Passed m pc opened inner place r k → Passed m' pc' opened inner place r k'
+  passed_under {place = place} {r = r} f h = coe 0 1 (i. Passed (d i) (e i) opened inner place r (f i)) h
+
+  pub refused_under : {place : ℕ} {rs : List Record} {x : Refusal} → Refused m pc opened inner place rs x → Refused m' pc' opened inner place rs x
+  refused_under {place = place} {rs = rs} {x = x} h = coe 0 1 (i. Refused (d i) (e i) opened inner place rs x) h
+
+  pub reads_under : {place next : ℕ} {rs left : List Record} {xs ys : List Instruction} → Reads m pc opened inner place rs xs ys next left → Reads m' pc' opened inner place rs xs ys next left
+  reads_under {place = place} {next = next} {rs = rs} {left = left} {xs = xs} {ys = ys} h = coe 0 1 (i. Reads (d i) (e i) opened inner place rs xs ys next left) h
+
+  pub block_under : {place next : ℕ} {rs rest : List Record} {xs ys : List Instruction} → BlockRead m pc opened inner place rs xs ys next rest → BlockRead m' pc' opened inner place rs xs ys next rest
+  block_under {place = place} {next = next} {rs = rs} {rest = rest} {xs = xs} {ys = ys} h = coe 0 1 (i. BlockRead (d i) (e i) opened inner place rs xs ys next rest) h

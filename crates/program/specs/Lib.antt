@@ -11,5 +11,6 @@ pub mod Valid
 pub mod Acceptance
 pub mod Readers
 pub mod Reading
+pub mod Forward
 pub mod Loading
 pub mod Examples

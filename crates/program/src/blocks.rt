@@ -1,69 +1,21 @@
 // Blocks and their commands, checked and kept in one pass.
-ghost use Rattle.std.specs.Prelude.{◌≡◌, ℕ, Option, ◌+◌, ◌*◌, ◌<◌, ◌≤◌, ◌≢◌, ◌∷◌, length, IfOk, MatchResult};
+ghost use Rattle.std.specs.Prelude.{◌≡◌, Option, ◌*◌, ◌+◌, ◌≤◌, ◌≢◌, length, IfOk, MatchResult};
 ghost use Rattle.records.specs.Records.{records};
 ghost use Rattle.program.specs.declared.innermost.Innermost.{Innermost as AnyInnermost};
 ghost use Rattle.program.specs.declared.innermost.RecordKind.TheVariants.{Loop as While, Mark};
 ghost use Rattle.program.specs.Contexts.{with_variable, inside_of};
 ghost use Rattle.program.specs.Rules.{Test};
-ghost use Rattle.program.specs.Reading.{Refused, Passed, Branches, Reads, BlockRead, end_bytes};
+ghost use Rattle.program.specs.Reading.{Refused, Passed, Branches, BlockRead, end_of};
+ghost use Rattle.program.specs.Forward.{Restored, BlockForward, Forward, CommandRead};
 
+use crate::checker::{Checker, Guard};
 use crate::checks::check_record;
-use crate::context::{Context, Guard};
+use crate::context::Context;
 use crate::innermost::{Innermost, RecordKind};
 use crate::kept::Instruction;
-use flow::FlowMasks;
+use crate::placed::{Block, Placed};
 use policy::condition_bit;
-use records::{Record, Refusal, Rule, next_record};
-
-// Checks the commands of a block in front of `bytes`, up to its end, under the context inside it. Answers the place of the end and
-// the bytes after it.
-#[cycle(check_block_check_branch_check_command_check_loop)]
-pub(crate) fn check_block<'a>(
-    masks: &FlowMasks,
-    bytes: &'a [u8],
-    place: usize,
-    opened: usize,
-    innermost: Option<Innermost>,
-    inside: Context,
-    context: &mut Context,
-    instructions: &mut [Instruction; 256],
-) -> Result<(usize, &'a [u8]), Refusal>
-    requires { (8 * place + length bytes.now ≤ 2048) × (opened ≤ place) }
-    ensures restored { context.new ≡ context.old }
-    ensures forward { IfOk result (λ p. (8 * p.0 + end_bytes innermost + length p.1.now ≡ 8 * place + length bytes.now) × (place ≤ p.0) × (end_bytes innermost ≡ 0 → length p.1.now < 8)) }
-    ensures answer { MatchResult result
-        (λ p. BlockRead masks.now inside opened innermost place (records bytes.now) instructions.old instructions.new p.0 (records p.1.now))
-        (λ e. Refused masks.now inside opened innermost place (records bytes.now) e) }
-{
-    let former = *context;
-    let guard = Guard { context, former };
-    *guard.context = inside;
-    let mut at = place;
-    let mut left = bytes;
-    while let Some((first, rest)) = next_record(left) {
-        match check_record(masks, first, at, opened, innermost, *guard.context)? {
-            RecordKind::Mark => return Ok((at, rest)),
-            kind => {
-                let (next, after) = check_command(
-                    masks,
-                    kind,
-                    first,
-                    rest,
-                    at,
-                    opened,
-                    guard.context,
-                    instructions,
-                )?;
-                at = next;
-                left = after;
-            }
-        }
-    }
-    match innermost {
-        None => Ok((at, left)),
-        Some(_) => Err(Rule::ProgramLetter.at(at, 0)),
-    }
-}
+use records::{Cursor, Record, Refusal, Rule};
 
 // The context inside the blocks that a record opens.
 fn context_inside(kind: RecordKind, first: Record, context: Context) -> Context
@@ -76,137 +28,125 @@ fn context_inside(kind: RecordKind, first: Record, context: Context) -> Context
     }
 }
 
-// Checks the blocks of the command whose record is `first`, at `place`, and which goes on in front of `bytes`, and keeps it.
-#[cycle(check_block_check_branch_check_command_check_loop)]
-fn check_command<'a>(
-    masks: &FlowMasks,
-    kind: RecordKind,
-    first: Record,
-    bytes: &'a [u8],
-    place: usize,
-    opened: usize,
-    context: &mut Context,
-    instructions: &mut [Instruction; 256],
-) -> Result<(usize, &'a [u8]), Refusal>
-    requires { (8 * (place + 1) + length bytes.now ≤ 2048) × (opened ≤ place) }
-    ensures restored { context.new ≡ context.old }
-    ensures forward { IfOk result (λ p. (8 * p.0 + length p.1.now ≡ 8 * (place + 1) + length bytes.now) × (place < p.0)) }
-    ensures answer { (inner : Option AnyInnermost) → Passed masks.now context.old opened inner place first kind → kind ≢ Mark → MatchResult result
-        (λ p. Reads masks.now context.old opened inner place (first ∷ records bytes.now) instructions.old instructions.new p.0 (records p.1.now))
-        (λ e. Refused masks.now context.old opened inner place (first ∷ records bytes.now) e) }
-{
-    let inside = context_inside(kind, first, *context);
-    match kind {
-        RecordKind::VariableTest | RecordKind::ConditionTest => check_branch(
-            masks,
-            kind,
-            first,
-            bytes,
-            place,
-            opened,
-            inside,
-            context,
-            instructions,
-        ),
-        RecordKind::Loop => check_loop(
-            masks,
-            first,
-            bytes,
-            place,
-            opened,
-            inside,
-            context,
-            instructions,
-        ),
-        _ => {
-            instructions[place] = Instruction::of(kind, first, 0);
-            Ok((place + 1, bytes))
+impl Checker<'_> {
+    // Checks the commands of a block at the cursor, up to its end, under the context inside it. Answers the cursor behind the end.
+    #[cycle(blocks)]
+    pub(crate) fn check_block<'a>(
+        &mut self,
+        cursor: Cursor<'a>,
+        block: Block,
+    ) -> Result<Cursor<'a>, Refusal>
+        requires { (8 * cursor.place + length cursor.left.now ≤ 2048) × (block.opened ≤ cursor.place) }
+        ensures restored { Restored self.old self.new }
+        ensures forward { IfOk result (λ p. BlockForward block.innermost cursor.entry p) }
+        ensures answer { MatchResult result
+            (λ p. BlockRead self.old.masks.now block.inside block.opened block.innermost cursor.entry.place (records cursor.entry.left.now) self.old.instructions self.new.instructions (end_of block.innermost p.place) (records p.left.now))
+            (λ e. Refused self.old.masks.now block.inside block.opened block.innermost cursor.entry.place (records cursor.entry.left.now) e) }
+    {
+        let former = self.context;
+        let guard = Guard {
+            checker: self,
+            former,
+        };
+        guard.checker.context = block.inside;
+        let mut ahead = cursor;
+        while let Some((first, behind)) = ahead.split_first() {
+            let place = ahead.place;
+            match check_record(
+                guard.checker.masks,
+                first,
+                place,
+                block,
+                guard.checker.context,
+            )? {
+                RecordKind::Mark => return Ok(behind),
+                kind => {
+                    let command = Placed {
+                        kind,
+                        first,
+                        place,
+                        opened: block.opened,
+                        behind,
+                    };
+                    ahead = guard.checker.check_command(command)?;
+                }
+            }
+        }
+        match block.innermost {
+            None => Ok(ahead),
+            Some(_) => Err(Rule::ProgramLetter.at(ahead.place, 0)),
         }
     }
-}
 
-// Checks and keeps the two blocks of the test whose record is `first`.
-#[cycle(check_block_check_branch_check_command_check_loop)]
-fn check_branch<'a>(
-    masks: &FlowMasks,
-    kind: RecordKind,
-    first: Record,
-    bytes: &'a [u8],
-    place: usize,
-    opened: usize,
-    inside: Context,
-    context: &mut Context,
-    instructions: &mut [Instruction; 256],
-) -> Result<(usize, &'a [u8]), Refusal>
-    requires { (8 * (place + 1) + length bytes.now ≤ 2048) × (opened ≤ place) }
-    ensures restored { context.new ≡ context.old }
-    ensures forward { IfOk result (λ p. (8 * p.0 + length p.1.now ≡ 8 * (place + 1) + length bytes.now) × (place < p.0)) }
-    ensures answer { (inner : Option AnyInnermost) (t : Test) → Branches masks.now context.old opened inner place first kind t inside → MatchResult result
-        (λ p. Reads masks.now context.old opened inner place (first ∷ records bytes.now) instructions.old instructions.new p.0 (records p.1.now))
-        (λ e. Refused masks.now context.old opened inner place (first ∷ records bytes.now) e) }
-{
-    let (middle, second) = check_block(
-        masks,
-        bytes,
-        place + 1,
-        opened + 1,
-        Some(Innermost::First),
-        inside,
-        context,
-        instructions,
-    )?;
-    // The second block stands under the test again.
-    let again = inside;
-    let (end, rest) = check_block(
-        masks,
-        second,
-        middle + 1,
-        opened + 1,
-        Some(Innermost::Second),
-        again,
-        context,
-        instructions,
-    )?;
-    instructions[place] = Instruction::of(kind, first, (middle - place) as u8);
-    instructions[middle] = Instruction::Jump {
-        way: (end - middle) as u8,
-    };
-    instructions[end] = Instruction::End;
-    Ok((end + 1, rest))
-}
+    // Checks the blocks of a command, and keeps it. Answers the cursor behind the command.
+    #[cycle(blocks)]
+    fn check_command<'a>(&mut self, command: Placed<'a>) -> Result<Cursor<'a>, Refusal>
+        ensures restored { Restored self.old self.new }
+        ensures forward { IfOk result (λ p. Forward command.entry p) }
+        ensures answer { (inner : Option AnyInnermost) → Passed self.old.masks.now self.old.context command.entry.opened inner command.entry.place command.entry.first command.entry.kind → command.entry.kind ≢ Mark
+            → CommandRead self.old inner command.entry self.new.instructions result }
+    {
+        let inside = context_inside(command.kind, command.first, self.context);
+        match command.kind {
+            RecordKind::VariableTest | RecordKind::ConditionTest => {
+                self.check_branch(command, inside)
+            }
+            RecordKind::Loop => self.check_loop(command, inside),
+            kind => {
+                self.instructions[command.place] = Instruction::of(kind, command.first, 0);
+                Ok(command.behind)
+            }
+        }
+    }
 
-// Checks and keeps the block of the loop whose record is `first`.
-#[cycle(check_block_check_branch_check_command_check_loop)]
-fn check_loop<'a>(
-    masks: &FlowMasks,
-    first: Record,
-    bytes: &'a [u8],
-    place: usize,
-    opened: usize,
-    inside: Context,
-    context: &mut Context,
-    instructions: &mut [Instruction; 256],
-) -> Result<(usize, &'a [u8]), Refusal>
-    requires { (8 * (place + 1) + length bytes.now ≤ 2048) × (opened ≤ place) }
-    ensures restored { context.new ≡ context.old }
-    ensures forward { IfOk result (λ p. (8 * p.0 + length p.1.now ≡ 8 * (place + 1) + length bytes.now) × (place < p.0)) }
-    ensures answer { (inner : Option AnyInnermost) → Passed masks.now context.old opened inner place first While → inside ≡ with_variable first.b context.old → MatchResult result
-        (λ p. Reads masks.now context.old opened inner place (first ∷ records bytes.now) instructions.old instructions.new p.0 (records p.1.now))
-        (λ e. Refused masks.now context.old opened inner place (first ∷ records bytes.now) e) }
-{
-    let (end, rest) = check_block(
-        masks,
-        bytes,
-        place + 1,
-        opened + 1,
-        Some(Innermost::Loop),
-        inside,
-        context,
-        instructions,
-    )?;
-    let way = (end - place) as u8;
-    let variable = first.b;
-    instructions[place] = Instruction::Loop { variable, way };
-    instructions[end] = Instruction::Again { variable, way };
-    Ok((end + 1, rest))
+    // Checks and keeps the two blocks of a test.
+    #[cycle(blocks)]
+    fn check_branch<'a>(&mut self, test: Placed<'a>, inside: Context) -> Result<Cursor<'a>, Refusal>
+        ensures restored { Restored self.old self.new }
+        ensures forward { IfOk result (λ p. Forward test.entry p) }
+        ensures answer { (inner : Option AnyInnermost) (t : Test) → Branches self.old.masks.now self.old.context test.entry.opened inner test.entry.place test.entry.first test.entry.kind t inside
+            → CommandRead self.old inner test.entry self.new.instructions result }
+    {
+        let then = Block {
+            opened: test.opened + 1,
+            innermost: Some(Innermost::First),
+            inside,
+        };
+        let second = self.check_block(test.behind, then)?;
+        // The second block stands under the test again.
+        let otherwise = Block {
+            innermost: Some(Innermost::Second),
+            ..then
+        };
+        let behind = self.check_block(second, otherwise)?;
+        let (place, middle, end) = (test.place, second.place - 1, behind.place - 1);
+        self.instructions[place] = Instruction::of(test.kind, test.first, (middle - place) as u8);
+        self.instructions[middle] = Instruction::Jump {
+            way: (end - middle) as u8,
+        };
+        self.instructions[end] = Instruction::End;
+        Ok(behind)
+    }
+
+    // Checks and keeps the block of a loop.
+    #[cycle(blocks)]
+    fn check_loop<'a>(&mut self, head: Placed<'a>, inside: Context) -> Result<Cursor<'a>, Refusal>
+        ensures restored { Restored self.old self.new }
+        ensures forward { IfOk result (λ p. Forward head.entry p) }
+        ensures answer { (inner : Option AnyInnermost) → Passed self.old.masks.now self.old.context head.entry.opened inner head.entry.place head.entry.first While → inside ≡ with_variable head.entry.first.b self.old.context
+            → CommandRead self.old inner head.entry self.new.instructions result }
+    {
+        let block = Block {
+            opened: head.opened + 1,
+            innermost: Some(Innermost::Loop),
+            inside,
+        };
+        let behind = self.check_block(head.behind, block)?;
+        let (place, end) = (head.place, behind.place - 1);
+        let way = (end - place) as u8;
+        let variable = head.first.b;
+        self.instructions[place] = Instruction::Loop { variable, way };
+        self.instructions[end] = Instruction::Again { variable, way };
+        Ok(behind)
+    }
 }

@@ -13,8 +13,9 @@ use crate::context::Context;
 use crate::fields::{
     check_condition_test, check_mark, check_raise, check_set, check_three, check_variable_test,
 };
-use crate::innermost::{Innermost, RecordKind};
+use crate::innermost::RecordKind;
 use crate::letters::kind_at;
+use crate::placed::Block;
 use crate::reach::check_reach;
 use flow::{FlowMasks, Inflow, PermitFlow};
 use policy::has;
@@ -54,15 +55,14 @@ pub(crate) fn check_record(
     masks: &FlowMasks,
     first: Record,
     place: usize,
-    opened: usize,
-    innermost: Option<Innermost>,
+    block: Block,
     context: Context,
 ) -> Result<RecordKind, Refusal>
     ensures { MatchResult result
-        (λ k. Passed masks.now context opened innermost place first k)
-        (λ e. (rs : List AnyRecord) → Refused masks.now context opened innermost place (first ∷ rs) e) }
+        (λ k. Passed masks.now context block.opened block.innermost place first k)
+        (λ e. (rs : List AnyRecord) → Refused masks.now context block.opened block.innermost place (first ∷ rs) e) }
 {
-    let kind = kind_at(first.letter, innermost).ok_or(Rule::ProgramLetter.at(place, 0))?;
+    let kind = kind_at(first.letter, block.innermost).ok_or(Rule::ProgramLetter.at(place, 0))?;
     match kind {
         RecordKind::Set => {
             let target = check_set(first, place, masks.variables)?;
@@ -87,13 +87,13 @@ pub(crate) fn check_record(
             check_reach(Rule::Reaching, place, context, inflow)?;
         }
         RecordKind::VariableTest => {
-            check_variable_test(first, place, masks.variables, opened)?;
+            check_variable_test(first, place, masks.variables, block.opened)?;
         }
         RecordKind::ConditionTest => {
-            check_condition_test(first, place, masks.conditions, opened)?;
+            check_condition_test(first, place, masks.conditions, block.opened)?;
         }
         RecordKind::Loop => {
-            check_variable_test(first, place, masks.variables, opened)?;
+            check_variable_test(first, place, masks.variables, block.opened)?;
             let inside = context.with_variable(first.b);
             check_reach(Rule::LoopLowest, place, inside, masks.lowest)?;
         }

@@ -1,4 +1,4 @@
-// The program-counter context as masks, and the guard that puts it back.
+// The program-counter context as masks.
 ghost use Rattle.std.specs.Prelude.{◌≡◌};
 ghost use Rattle.program.specs.Contexts.{with_variable, with_conditions};
 
@@ -9,24 +9,6 @@ use policy::mask_of;
 pub(crate) struct Context {
     pub(crate) variables: u64,
     pub(crate) conditions: u16,
-}
-
-// Holds the context while a block is checked, and puts the former one back when that ends or fails.
-pub(crate) struct Guard<'a> {
-    pub(crate) context: &'a mut Context,
-    pub(crate) former: Context,
-}
-
-impl Drop for Guard<'_> {
-    fn drop(self)
-        ensures { self.exit.0.now ≡ self.entry.former }
-    {
-        *self.context = self.former;
-        let Guard {
-            context: _,
-            former: _,
-        } = self;
-    }
 }
 
 impl Context {

@@ -61,6 +61,7 @@ pub enum Instruction {
 }
 
 /// A kept program: its first `count` instructions.
+// A count beside an array: no heap, so the instructions have fixed room.
 #[derive(Clone, Copy)]
 pub struct Program {
     pub count: usize,

@@ -2,6 +2,7 @@
 #![tactic(auto)]
 
 mod blocks;
+mod checker;
 mod checks;
 mod context;
 mod fields;
@@ -9,6 +10,7 @@ mod innermost;
 mod instructions;
 mod kept;
 mod letters;
+mod placed;
 mod reach;
 mod read;
 mod rules;

@@ -2,11 +2,12 @@
 ghost use Rattle.std.specs.Result.{MatchResult};
 ghost use Rattle.program.specs.Loading.{ProgramRead, ProgramRefused};
 
-use crate::blocks::check_block;
+use crate::checker::Checker;
 use crate::context::Context;
 use crate::kept::{Instruction, Program};
+use crate::placed::Block;
 use flow::FlowMasks;
-use records::{Refusal, Rule};
+use records::{Cursor, Refusal, Rule};
 
 /// The most bytes that a program may have.
 pub const PROGRAM_BYTES: usize = 2048;
@@ -20,21 +21,20 @@ pub fn read_program(masks: &FlowMasks, bytes: &[u8]) -> Result<Program, Refusal>
     if bytes.len() % 8 != 0 || bytes.len() > PROGRAM_BYTES {
         return Err(Rule::ProgramLength.at(0, 0));
     }
-    let mut instructions = [Instruction::End; 256];
-    let mut context = Context::default();
-    let inside = context;
-    let (count, _rest) = check_block(
+    let inside = Context::default();
+    let mut checker = Checker {
         masks,
-        bytes,
-        0,
-        0,
-        None,
+        context: inside,
+        instructions: [Instruction::End; 256],
+    };
+    let outermost = Block {
+        opened: 0,
+        innermost: None,
         inside,
-        &mut context,
-        &mut instructions,
-    )?;
+    };
+    let end = checker.check_block(Cursor::new(bytes), outermost)?;
     Ok(Program {
-        count,
-        instructions,
+        count: end.place,
+        instructions: checker.instructions,
     })
 }

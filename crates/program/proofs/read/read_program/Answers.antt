@@ -9,16 +9,15 @@ returns-then-bytes-ne0 c =
     let h : whole_records c.args.bytes.now ≡ false = search rules in
     rw c.at.ensures (wrong_length c.args.masks.now c.args.bytes.now h)
 
-pub returns-in_err-count : goal.returns-in_err-count
-returns-in_err-count c =
+pub returns-in_err-end : goal.returns-in_err-end
+returns-in_err-end c =
     let m : length c.args.bytes.now % 8 ≡ 0 = search rules in
     let l : length c.args.bytes.now ≤ 2048 = search rules in
     let p = err_from_is_err_and c.from_residual.result c.from_residual.ensures.1 in
-    rw (p.1, p.2) (program_refused c.args.masks.now c.args.bytes.now m l _ c.default-context.ensures _ c.in_err-count.ensures.answer)
+    rw (p.1, p.2) (program_refused _ _ m l _ c.default-inside.ensures c.new.result c.new.ensures.place c.new.ensures.left _ c.in_err-end.ensures.answer)
 
 pub returns : goal.returns
 returns c =
     let m : length c.args.bytes.now % 8 ≡ 0 = search rules in
     let l : length c.args.bytes.now ≤ 2048 = search rules in
-    let f = c.in_ok-count.ensures.forward in
-    program_read c.args.masks.now c.args.bytes.now m l _ c.default-context.ensures _ _ c.in_ok-count._rest.now c.in_ok-count.ensures.answer f.0 (f.2 refl)
+    program_read _ _ m l _ c.default-inside.ensures c.new.result c.new.ensures.place c.new.ensures.left _ _ c.in_ok-end.end c.in_ok-end.ensures.answer refl c.in_ok-end.ensures.forward
