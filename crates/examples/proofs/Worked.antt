@@ -1,5 +1,6 @@
 -- The worked examples, each by its cases. Assumes nothing.
-use Rattle.std.proofs.Common.{◌≡◌, ℕ, Bool, true, false, cond, ◌||◌, eqb, [], ◌∷◌, Decides, refl}
+use Rattle.std.proofs.Common.{◌≡◌, ℕ, Bool, true, false, cond, ◌||◌, eqb, [], ◌∷◌, Decides, sym, refl, ◌∙◌}
+use Rattle.std.proofs.Math.Bool.{or-false}
 use Rattle.std.proofs.lemmas.Bool.{both_ways, eqb-true, eq-eqb, or_left}
 use Rattle.lattice.specs.Lattice.{Below}
 use Rattle.lattice.specs.Chain.{chain}
@@ -57,11 +58,7 @@ wipers = record {
 
 -- what wipes a policy whose present part is a level
 only_wiper : (d c : ℕ) → Decides (eqb c d || false) (c ≡ d)
-only_wiper d c = (λ h. eqb-true c d (plain (eqb c d) h), λ e. or_left _ _ (eq-eqb c d e))
-  where
-    plain : (b : Bool) → (b || false) ≡ true → b ≡ true
-    plain true h = refl
-    plain false h = h
+only_wiper d c = (λ h. eqb-true c d (sym (or-false _) ∙ h), λ e. or_left _ _ (eq-eqb c d e))
 
 order : FirstWipes
 order = record {

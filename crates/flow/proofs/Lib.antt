@@ -1,2 +1,4 @@
 pub mod Turns
 pub mod Sheets
+pub mod Made
+pub mod Declared

@@ -1,15 +1,14 @@
 -- What is decided of the rows of a table is decided of each valid sheet that the table represents. Assumes nothing.
-use Rattle.std.proofs.Common.{◌≡◌, ℕ, ◌+◌, ◌*◌, ◌/◌, ◌%◌, ◌^◌, ◌<◌, Bool, true, eqb, length, get_or, Decides, sym, refl, ap, ◌∙◌, subst, inl, inr, arith}
-use Rattle.std.proofs.lemmas.Nat.{shr-shr, div-add-mod'}
+use Rattle.std.proofs.Common.{◌≡◌, ℕ, ◌%◌, Bool, length, get_or, Decides, sym, refl, ap, ◌∙◌, subst, inl, inr, arith}
 use Rattle.std.proofs.lemmas.List.{get_or_past}
-use Rattle.std.proofs.lemmas.Bool.{both_ways, cases_lt, cases_eq, ltb-true, lt-ltb}
+use Rattle.std.proofs.lemmas.Bool.{both_ways, cases_lt, ltb-true, lt-ltb}
 use Rattle.lattice.specs.Lattice.{Lattice, Lawful, Known}
 use Rattle.policy.specs.declared.row.Row.{Row}
 use Rattle.policy.specs.Policy.{Policy, leaf, FlowsTo, KnownLevels, wipes}
 use Rattle.policy.specs.Masks.{bit}
 use Rattle.policy.specs.Rows.{Holds, no_leaf}
 use Rattle.policy.proofs.Filled.{holds_present}
-use Rattle.policy.proofs.Masks.{bit_zero, some_bit}
+use Rattle.policy.proofs.Masks.{bit_zero}
 use Rattle.sheet.specs.declared.rows.Grant.{Grant}
 use Rattle.sheet.specs.declared.rows.SheetTable.{SheetTable}
 use Rattle.sheet.specs.Sheet.{Sheet, policy_of, level_of, permit_at}
@@ -20,17 +19,9 @@ use Rattle.flow.specs.declared.masks.Inflow.{Inflow}
 use Rattle.flow.specs.declared.masks.PermitFlow.{PermitFlow}
 use Rattle.flow.specs.declared.masks.FlowMasks.{FlowMasks}
 use Rattle.flow.specs.Flows.{no_inflow, no_variable_flow, VariablesThat, Admits, Permits, MasksOf}
+use Rattle.flow.proofs.Declared.{mask_below}
 use Rattle.flow.specs.TableFlows.{EachBit, row_of, leaf_row, conditions_in, variables_in, permits_in, VariablesInto, VariablesFrom, InflowOf, PermitFlowOf, TableFlows}
 use Rattle.machine.proofs.Sheets.{valid_sound}
-
--- a mask all of whose bits are below w
-pub mask_below : (w n : ℕ) → ((k : ℕ) → bit k n ≡ true → k < w) → n % 2 ^ w ≡ n
-unfolding bit
-mask_below w n f =
-    elim (cases_eq (n / 2 ^ w) 0) [
-      | inl e ↦ omega (arith, div-add-mod' n (2 ^ w), ap (λ (q : ℕ). q * 2 ^ w) e)
-      | inr ne ↦ let r = some_bit (n / 2 ^ w) ne in absurd (omega (arith, f (w + r.0) (ap (λ (q : ℕ). eqb (q % 2) 1) (sym (shr-shr n w r.0)) ∙ r.1)))
-    ]
 
 leaf_holds : (l : ℕ) → Holds (leaf_row l) (leaf l)
 leaf_holds l = record { conditions = tt; levels = refl; wipers = bit_zero }

@@ -3,7 +3,7 @@ use Rattle.std.proofs.Common.{◌≡◌, ℕ, zero, suc, ◌+◌, ◌*◌, ◌%�
 use lib.Bits.{bit_or}
 use lib.ListN.{length-replicate}
 use Rattle.std.proofs.lemmas.Nat.{one_shl}
-use Rattle.std.proofs.lemmas.List.{get_or_default, get_or-set_same, get_or-set_other}
+use Rattle.std.proofs.lemmas.List.{get_or-set_same, get_or-set_other}
 use Rattle.std.proofs.lemmas.Bool.{eq-eqb, ne_eqb, cases_eq}
 use Rattle.policy.specs.Masks.{bit}
 use Rattle.policy.proofs.Masks.{bit_or_lem, bit_pow, bit_zero}
@@ -74,7 +74,3 @@ items_more P d size i xs x l h p =
 
 pub items_all : {X : Type 0} {P : ℕ → X → Type 0} {d : X} {size : ℕ} {xs : List X} (i n : ℕ) → i ≡ n → Filling size i d P xs → EachItem n d P xs
 items_all {X} {P} {d} {size} {xs} i n e h = subst (λ k. EachItem k d P xs) e h.items
-
--- an item that is there is the same at every default
-pub item_read : {X : Type 0} (xs : List X) (i : ℕ) (d e : X) → i < length xs → (Q : X → Type 0) → Q (get_or xs i d) → Q (get_or xs i e)
-item_read xs i d e l Q = subst Q (get_or_default xs i d e l)

@@ -1,6 +1,6 @@
 -- What may flow where between the rows of a table, whatever they hold; and so under each valid sheet that the table represents.
 -- A count beyond the table's places stands for all of them.
-use Rattle.std.specs.Prelude.{◌≡◌, ℕ, ◌%◌, ◌<◌, ◌≤◌, min, Bool, false, List, get_or, slice_index, slice_index_or}
+use Rattle.std.specs.Prelude.{◌≡◌, ℕ, ◌%◌, ◌<◌, ◌≤◌, min, Bool, false, List, length, get_or, slice_index, slice_index_or}
 use Rattle.lattice.specs.Lattice.{Lattice}
 use Rattle.policy.specs.declared.row.Row.{Row}
 use Rattle.policy.specs.Masks.{bit}
@@ -26,6 +26,15 @@ pub record EachBit (n : ℕ) (P : ℕ → Bool → Type 0) (mask : ℕ) : Type 0
 pub record EachItem {X : Type 0} (n : ℕ) (none : X) (P : ℕ → X → Type 0) (xs : List X) : Type 0 where
   pub below : (i : ℕ) → i < n → P i (slice_index_or xs i none)
   pub beyond : (i : ℕ) → n ≤ i → slice_index_or xs i none ≡ none
+
+-- what is made of the item at a place of a list, or nothing beyond them
+pub record MadeAt {T X : Type 0} (Made : T → X → Type 0) (Nothing : X → Type 0) (items : List T) (i : ℕ) (x : X) : Type 0 where
+  pub below : (d : T) → i < length items → Made (slice_index_or items i d) x
+  pub beyond : length items ≤ i → Nothing x
+
+-- what is made of each item of a list, as far as there is room, and nothing beyond them
+abbrev pub MadeOfEach : {T X : Type 0} → (T → X → Type 0) → (X → Type 0) → List T → List X → Type 0
+MadeOfEach {T} {X} Made Nothing items xs = (i : ℕ) (e : X) → i < length xs → MadeAt Made Nothing items i (slice_index_or xs i e)
 
 abbrev pub conditions_in : SheetTable → ℕ
 conditions_in t = min t.conditions 16

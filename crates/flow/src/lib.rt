@@ -1,7 +1,8 @@
 // What may flow where under a sheet, as masks.
 #![tactic(auto)]
 
-mod inflow;
+mod flows;
+mod items;
 mod masks;
 mod tables;
 

@@ -2,21 +2,21 @@
 ghost use Rattle.std.specs.Prelude.{◌≡◌, ◌≤◌, length};
 
 /// What may reach a target: the variables whose policies flow to it, and the conditions whose levels are below its present level.
-#[derive(Clone, Copy)]
+#[derive(Clone, Copy, Default)]
 pub struct Inflow {
     pub variables: u64,
     pub conditions: u16,
 }
 
 /// A variable: what may reach it, and the conditions that wipe it.
-#[derive(Clone, Copy)]
+#[derive(Clone, Copy, Default)]
 pub struct VariableFlow {
     pub inflow: Inflow,
     pub wipers: u16,
 }
 
 /// A permit: its conditions, the variables that flow to its from-tree, and the variables to which its to-tree flows.
-#[derive(Clone, Copy)]
+#[derive(Clone, Copy, Default)]
 pub struct PermitFlow {
     pub conditions: u16,
     pub sources: u64,

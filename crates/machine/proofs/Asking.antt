@@ -1,22 +1,10 @@
 -- A list of rules: what is so of the refusals and of the step is so of what is asked first.
-use Rattle.std.proofs.Common.{◌≡◌, Bool, true, false, cond, List, [], ◌∷◌, refl, ap, ◌∙◌}
+use Rattle.std.proofs.Common.{◌≡◌, Bool, true, false, cond, List, [], ◌∷◌, refl}
 use Rattle.records.specs.declared.refusal.Refusal.{Refusal}
 use Rattle.records.specs.Rules.{Rule}
 use Rattle.records.proofs.Firsts.{AllHold}
 use Rattle.machine.specs.Calls.{Answer}
 use Rattle.machine.specs.Machine.{State, Step, answered, asked}
-
--- the first rule fails, or holds
-pub asked_no : (st : State) (q : Rule) (qs : List Rule) (t : Step) → q.holds ≡ false → asked st (q ∷ qs) t ≡ answered st (Answer.refused q.refusal)
-asked_no st q qs t h = ap (λ b. cond b (asked st qs t) (answered st (Answer.refused q.refusal))) h
-
-pub asked_yes : (st : State) (q : Rule) (qs : List Rule) (t : Step) → q.holds ≡ true → asked st (q ∷ qs) t ≡ asked st qs t
-asked_yes st q qs t h = ap (λ b. cond b (asked st qs t) (answered st (Answer.refused q.refusal))) h
-
--- where all rules hold, the step is taken
-pub asked_all : (st : State) (qs : List Rule) (t : Step) → AllHold qs → asked st qs t ≡ t
-asked_all st [] t h = refl
-asked_all st (q ∷ qs) t h = asked_yes st q qs t h.0 ∙ asked_all st qs t h.1
 
 pub asked_keeps : (P : Step → Type 0) (st : State) (qs : List Rule) (t : Step) → ((r : Refusal) → P (answered st (Answer.refused r))) → P t → P (asked st qs t)
 asked_keeps P st [] t h k = k

@@ -1,8 +1,9 @@
 -- The worked examples.
-use Rattle.std.proofs.Common.{◌≡◌, ℕ, zero, suc, Bool, true, false, cond, ◌||◌, eqb, leb, sym, refl, subst, inl, inr, arith}
+use Rattle.std.proofs.Common.{◌≡◌, ℕ, zero, suc, true, false, cond, ◌||◌, eqb, leb, sym, refl, ◌∙◌, subst, inl, inr, arith}
 use mathlib.Core.Bool.{false≢true}
 use Rattle.std.specs.Int.{int_wrap}
-use Rattle.std.proofs.lemmas.Bool.{or_cases, or_left, or_right, eqb-true, eq-eqb, and_parts, leb-true}
+use Rattle.std.proofs.Math.Bool.{or-false}
+use Rattle.std.proofs.lemmas.Bool.{or_cases, or_left, or_right, eqb-true, eq-eqb, and_parts, leb-true, false_from_ne_true}
 use Rattle.lattice.specs.Lattice.{Lattice, Below}
 use Rattle.lattice.specs.Chain.{chain}
 use Rattle.policy.specs.Policy.{none, add, Policy, leaf, erase, level_under, wipes, wiped_by, FlowsTo}
@@ -19,7 +20,7 @@ from_top C sh p = record { variables = λ v h. absurd (false≢true h); conditio
 
 under_one : (C : Lattice) (sh : Sheet) (v : ℕ) (p : Policy) → FlowsTo C (policy_of sh v) p → ContextFlowsTo C sh (under_variable v outermost) p
 under_one C sh v p f = record {
-  variables = λ w h. elim (or_cases (eqb w v) false h) [ inl e ↦ subst (λ (i : ℕ). FlowsTo C (policy_of sh i) p) (sym (eqb-true w v e)) f | inr e ↦ absurd (false≢true e) ];
+  variables = λ w h. subst (λ (i : ℕ). FlowsTo C (policy_of sh i) p) (sym (eqb-true w v (sym (or-false _) ∙ h))) f;
   conditions = λ c h. absurd (false≢true h);
 }
 
@@ -30,16 +31,12 @@ wiped_by_one : (c : ℕ) (p : Policy) → wiped_by (add c none) p ≡ true → w
 wiped_by_one c (leaf l) h = h
 wiped_by_one c (erase d p q) h =
     elim (or_cases (eqb d c || false) (wiped_by (add c none) p) h) [
-      | inl e ↦ or_left (eqb c d) (wipes c p) (eq-eqb c d (sym (eqb-true d c (elim (or_cases (eqb d c) false e) [ inl x ↦ x | inr x ↦ absurd (false≢true x) ]))))
+      | inl e ↦ or_left (eqb c d) (wipes c p) (eq-eqb c d (sym (eqb-true d c (sym (or-false _) ∙ e))))
       | inr e ↦ or_right (eqb c d) (wipes c p) (wiped_by_one c p e)
     ]
 
 top_not_below : (l : ℕ) → Below (chain 3) 3 l → (chain 3).below l 1 ≡ false
-top_not_below l h = go ((chain 3).below l 1) refl
-  where
-    go : (b : Bool) → (chain 3).below l 1 ≡ b → b ≡ false
-    go true e = absurd (omega (arith, leb-true 3 l (and_parts (leb 3 l) (leb l 3) h).0, leb-true l 1 (and_parts (leb l 1) true e).0))
-    go false e = refl
+top_not_below l h = false_from_ne_true _ (λ e. omega (arith, leb-true 3 l (and_parts (leb 3 l) (leb l 3) h).0, leb-true l 1 (and_parts (leb l 1) true e).0))
 
 release_accepted : ReleaseWellTyped 1 (leaf 3) (leaf 1)
 release_accepted = (refl, refl, refl, record { variables = λ v h. absurd (false≢true h); conditions = λ c h. low c }, flows, (λ s. refl))

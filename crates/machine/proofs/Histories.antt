@@ -1,18 +1,9 @@
 -- Whole lists of calls on two boxes: where what remains for the observer went in alike, it is answered alike.
-use Rattle.std.proofs.Common.{◌≡◌, ℕ, Bool, true, false, cond, List, [], ◌∷◌, ◌++◌, map, ℤ, sym, refl, ap, ◌∙◌, subst, ap₂, arith}
+use Rattle.std.proofs.Common.{◌≡◌, Bool, true, false, cond, List, [], ◌∷◌, ◌++◌, map, ℤ, sym, refl, ap, ◌∙◌, subst, ap₂}
 use Rattle.machine.specs.Calls.{Call, Answer}
 use Rattle.machine.specs.Machine.{System, State, Event, step, event, history, final}
 use Rattle.machine.specs.Observation.{Observer, hidden, observed, observed_calls, observed_answers, observed_releases}
 use Rattle.machine.proofs.Steps.{Setting, Twin, twin_sym, Seen, seen, struck}
-
-never_cons : {A : Type 0} (x : A) (xs : List A) → [] ≡ (x ∷ xs) → ⊥
-never_cons x xs e = let z : ◌≡◌ {A = ℕ} 0 1 = cc in omega arith
-
-cons_head : {A : Type 0} (x y : A) (xs ys : List A) → (x ∷ xs) ≡ (y ∷ ys) → x ≡ y
-cons_head x y xs ys e = cc
-
-cons_tail : {A : Type 0} (x y : A) (xs ys : List A) → (x ∷ xs) ≡ (y ∷ ys) → xs ≡ ys
-cons_tail x y xs ys e = cc
 
 abbrev call_of : Event → Call
 call_of e = e.call
@@ -76,9 +67,11 @@ module _ {S : System} {o : Observer} (G : Setting S o) where
       → Follow S o (after S o st c) (after S o st' d) cs ds → Follow S o st st' (c ∷ cs) (d ∷ ds)
   both st st' c d cs ds h h' k t e f =
       let e' : (c ∷ Calls S o (after S o st c) cs) ≡ (d ∷ Calls S o (after S o st' d) ds) = sym (part_seen S o call_of st c cs h) ∙ e ∙ part_seen S o call_of st' d ds h' in
-      let one = subst (λ (x : Call). Seen G st st' c x) (cons_head c d _ _ e') (seen G t c h) in
+      let same : c ≡ d = cc in
+      let rest : Calls S o (after S o st c) cs ≡ Calls S o (after S o st' d) ds = cc in
+      let one = subst (λ (x : Call). Seen G st st' c x) same (seen G t c h) in
       let z = one (Releases S o (after S o st c) cs) (Releases S o (after S o st' d) ds) f in
-      let more = k z.0 (cons_tail c d _ _ e') z.2 in
+      let more = k z.0 rest z.2 in
       record {
         answers = part_seen S o answer_of st c cs h ∙ ap₂ (λ x xs. x ∷ xs) z.1 more.answers ∙ sym (part_seen S o answer_of st' d ds h');
         twin = more.twin;
@@ -90,10 +83,10 @@ module _ {S : System} {o : Observer} (G : Setting S o) where
     where
       go : (b : Bool) → struck_at S o st' d ≡ b → Follow S o st (after S o st' d) [] ds → Followed S o st st' [] (d ∷ ds)
       go true h k = skip_right st st' [] d ds h k t e f
-      go false h k = absurd (never_cons d (Calls S o (after S o st' d) ds) (e ∙ part_seen S o call_of st' d ds h))
+      go false h k = let no : [] ≡ (d ∷ Calls S o (after S o st' d) ds) = e ∙ part_seen S o call_of st' d ds h in cc
 
   advance : (c : Call) (cs : List Call) → ((ds : List Call) (st st' : State) → Follow S o st st' cs ds) → (ds : List Call) (st st' : State) → struck_at S o st c ≡ false → Follow S o st st' (c ∷ cs) ds
-  advance c cs k [] st st' h t e f = absurd (never_cons c (Calls S o (after S o st c) cs) (sym e ∙ part_seen S o call_of st c cs h))
+  advance c cs k [] st st' h t e f = let no : [] ≡ (c ∷ Calls S o (after S o st c) cs) = sym e ∙ part_seen S o call_of st c cs h in cc
   advance c cs k (d ∷ ds) st st' h t e f = go (struck_at S o st' d) refl (advance c cs k ds st (after S o st' d) h)
     where
       go : (b : Bool) → struck_at S o st' d ≡ b → Follow S o st (after S o st' d) (c ∷ cs) ds → Followed S o st st' (c ∷ cs) (d ∷ ds)

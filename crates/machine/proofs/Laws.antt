@@ -1,5 +1,5 @@
 -- A refusal changes nothing.
-use Rattle.std.proofs.Common.{◌≡◌, ℕ, List, [], ℤ, refl, arith}
+use Rattle.std.proofs.Common.{◌≡◌, ℕ, List, [], refl}
 use mathlib.Core.Option.{Option, none, some}
 use Rattle.records.specs.declared.refusal.Refusal.{Refusal}
 use Rattle.records.specs.Rules.{Reading, accepted, refused}
@@ -17,22 +17,10 @@ use Rattle.machine.proofs.Loops.{while_law}
 abbrev Keeps : State → Refusal → Step → Type 0
 Keeps st r t = t.answer ≡ Answer.refused r → (t.next ≡ st) × (t.releases ≡ [])
 
-number_not : (x : ℤ) (r : Refusal) → Answer.number x ≡ Answer.refused r → ⊥
-number_not x r e = let z : ◌≡◌ {A = ℕ} 0 1 = cc in omega arith
-
-bytes_not : (xs : List ℕ) (r : Refusal) → Answer.bytes xs ≡ Answer.refused r → ⊥
-bytes_not xs r e = let z : ◌≡◌ {A = ℕ} 0 1 = cc in omega arith
-
-done_not : (n : ℕ) (r : Refusal) → Answer.done n ≡ Answer.refused r → ⊥
-done_not n r e = let z : ◌≡◌ {A = ℕ} 0 1 = cc in omega arith
-
-spent_not : (n : ℕ) (r : Refusal) → Answer.spent n ≡ Answer.refused r → ⊥
-spent_not n r e = let z : ◌≡◌ {A = ℕ} 0 1 = cc in omega arith
-
 module _ (S : System) (r : Refusal) where
   keeps_begun : (x : Reading Sheet) → Keeps bare r (begun x)
   keeps_begun (refused q) e = (refl, refl)
-  keeps_begun (accepted sh) e = absurd (number_not _ r e)
+  keeps_begun (accepted sh) e = cc
 
   keeps_first : (c : Call) → Keeps bare r (first_step S c)
   keeps_first (Call.sheet xs) e = keeps_begun (S.readers.sheet S.lattice xs) e
@@ -47,11 +35,11 @@ module _ (S : System) (r : Refusal) where
 
   keeps_loaded : (sh : Sheet) (p : Option Command) (m : Memory) (xs : List ℕ) (x : Reading Command) → Keeps (ready sh p m) r (loaded sh p m xs x)
   keeps_loaded sh p m xs (refused q) e = (refl, refl)
-  keeps_loaded sh p m xs (accepted c) e = absurd (number_not _ r e)
+  keeps_loaded sh p m xs (accepted c) e = cc
 
   keeps_ended : (sh : Sheet) (c : Command) (m : Memory) (n : ℕ) (o : Outcome) → Keeps (ready sh (some c) m) r (ended sh c n o)
-  keeps_ended sh c m n (done k m' l) e = absurd (done_not _ r e)
-  keeps_ended sh c m n (spent m' l) e = absurd (spent_not n r e)
+  keeps_ended sh c m n (done k m' l) e = cc
+  keeps_ended sh c m n (spent m' l) e = cc
 
   keeps_passed : (sh : Sheet) (p : Option Command) (m : Memory) (n : ℕ) → Keeps (ready sh p m) r (passed sh p m n)
   keeps_passed sh none m n e = (refl, refl)
@@ -60,13 +48,13 @@ module _ (S : System) (r : Refusal) where
   keeps_effect : (sh : Sheet) (p : Option Command) (m : Memory) (c : Call) → Keeps (ready sh p m) r (effect S sh p m c)
   keeps_effect sh p m (Call.sheet xs) e = (refl, refl)
   keeps_effect sh p m (Call.load xs) e = keeps_loaded sh p m xs (S.readers.program S.lattice sh xs) e
-  keeps_effect sh p m (Call.feed v x) e = absurd (number_not _ r e)
-  keeps_effect sh p m (Call.raise c) e = absurd (number_not _ r e)
-  keeps_effect sh p m (Call.lower c) e = absurd (number_not _ r e)
+  keeps_effect sh p m (Call.feed v x) e = cc
+  keeps_effect sh p m (Call.raise c) e = cc
+  keeps_effect sh p m (Call.lower c) e = cc
   keeps_effect sh p m (Call.pass n) e = keeps_passed sh p m n e
-  keeps_effect sh p m (Call.look l v) e = absurd (number_not _ r e)
-  keeps_effect sh p m (Call.ask l c) e = absurd (number_not _ r e)
-  keeps_effect sh p m (Call.image l size) e = absurd (bytes_not _ r e)
+  keeps_effect sh p m (Call.look l v) e = cc
+  keeps_effect sh p m (Call.ask l c) e = cc
+  keeps_effect sh p m (Call.image l size) e = cc
 
   keeps_step : (st : State) (c : Call) → Keeps st r (step S st c)
   keeps_step bare c = keeps_first c

@@ -2,6 +2,7 @@ pub mod Policies
 pub mod Every
 pub mod Values
 pub mod Memories
+pub mod EveryRun
 pub mod Runs
 pub mod Loops
 pub mod Asking

@@ -1,9 +1,10 @@
 -- The law of a loop, free of the bound by which it is defined: a false test ends it at no cost; a true one takes a turn,
 -- or stops the pass where there is none.
-use Rattle.std.proofs.Common.{◌≡◌, ℕ, zero, suc, ◌≤◌, Bool, true, false, List, [], refl, ap, not-suc-le-zero, arith}
+use Rattle.std.proofs.Common.{◌≡◌, ℕ, zero, suc, ◌≤◌, true, false, List, [], refl, ap, not-suc-le-zero, arith}
 use Rattle.sheet.specs.Sheet.{Sheet}
-use Rattle.machine.specs.Command.{Command, skip, ◌⨾◌, set, combine, release, raise, if_variable, if_condition, while}
+use Rattle.machine.specs.Command.{Command, while}
 use Rattle.machine.specs.Memory.{Memory}
+use Rattle.machine.proofs.EveryRun.{every_run}
 use Rattle.machine.specs.Run.{Release, Outcome, done, spent, after, and_then, is_zero, loop, run}
 
 -- no outcome leaves more turns than there were
@@ -19,32 +20,19 @@ left_then : (n : ℕ) (o : Outcome) (f : ℕ → Memory → Outcome) → Left n 
 left_then n (done k m l) f h g = left_after n k l (f k m) h (g k m)
 left_then n (spent m l) f h g = tt
 
-left_branch : (n : ℕ) (t : Bool) (x y : Outcome) → Left n x → Left n y → Left n (elim t [ true ↦ x | false ↦ y ])
-left_branch n true x y h k = h
-left_branch n false x y h k = k
-
 left_more : (n : ℕ) (o : Outcome) → Left n o → Left (suc n) o
 left_more n (done k m l) h = omega arith
 left_more n (spent m l) h = tt
 
-left_loop : (b : ℕ) (body : ℕ → Memory → Outcome) → ((n : ℕ) (m : Memory) → Left n (body n m)) → (bound n : ℕ) (m : Memory) → Left n (loop bound b body n m)
-left_loop b body f zero n m = left_branch n (is_zero (m.values b)) (done n m []) (spent m []) (omega arith) tt
-left_loop b body f (suc bound) n m =
-    let turn : ℕ → Outcome = λ k. elim k [ zero ↦ spent m [] | suc j ↦ and_then (body j m) (loop bound b body) ] in
-    let again : (k : ℕ) → Left k (turn k) =
-    elim [ zero ↦ tt | suc j ↦ left_more j (and_then (body j m) (loop bound b body)) (left_then j (body j m) (loop bound b body) (f j m) (left_loop b body f bound)) ] in
-    left_branch n (is_zero (m.values b)) (done n m []) (turn n) (omega arith) (again n)
-
-pub left_run : (sh : Sheet) (c : Command) (n : ℕ) (m : Memory) → Left n (run sh c n m)
-left_run sh skip n m = omega arith
-left_run sh (c ⨾ d) n m = left_then n (run sh c n m) (run sh d) (left_run sh c n m) (left_run sh d)
-left_run sh (set a x) n m = omega arith
-left_run sh (combine g a b c) n m = omega arith
-left_run sh (release a b r) n m = omega arith
-left_run sh (raise c) n m = omega arith
-left_run sh (if_variable b c d) n m = left_branch n (is_zero (m.values b)) (run sh d n m) (run sh c n m) (left_run sh d n m) (left_run sh c n m)
-left_run sh (if_condition a c d) n m = left_branch n (m.up a) (run sh c n m) (run sh d n m) (left_run sh c n m) (left_run sh d n m)
-left_run sh (while b c) n m = left_loop b (run sh c) (left_run sh c) n n m
+left_run : (sh : Sheet) (c : Command) (n : ℕ) (m : Memory) → Left n (run sh c n m)
+left_run sh = every_run sh {P = λ n m. Left n} (record {
+  ends = λ n m. omega arith;
+  stops = λ n m. tt;
+  writes = λ n a x m l. omega arith;
+  raises = λ n c m. omega arith;
+  turns = λ n m. left_more n;
+  goes_on = λ n m. left_then n;
+})
 
 then_alike : (n : ℕ) (o : Outcome) (f g : ℕ → Memory → Outcome) → Left n o → ((k : ℕ) (m : Memory) → k ≤ n → f k m ≡ g k m) → and_then o f ≡ and_then o g
 then_alike n (done k m l) f g h e = ap (after l) (e k m h)

@@ -3,9 +3,9 @@ use Rattle.std.proofs.Common.{◌≡◌, ℕ, Bool, true, false, cond, eqb, List
 use mathlib.Core.Bool.{false≢true}
 use mathlib.Core.Path.{fun_ext}
 use lib.ListN.{get_or-eq_default}
-use Rattle.std.proofs.lemmas.Bool.{ltb-false, eqb-true}
+use Rattle.std.proofs.lemmas.Bool.{both_ways, ltb-false, eqb-true}
 use Rattle.lattice.specs.Lattice.{Lattice, Lawful, Known}
-use Rattle.policy.specs.Policy.{Set, leaf, wipes, wiped_by}
+use Rattle.policy.specs.Policy.{leaf, wipes, wiped_by}
 use Rattle.sheet.specs.Sheet.{Sheet, Variable, policy_of, declared_variable}
 use Rattle.machine.specs.SoundSheet.{SoundSheet, HasVariable}
 use Rattle.machine.specs.Memory.{Memory, update, write, raised, lowered}
@@ -17,6 +17,14 @@ use Rattle.machine.proofs.Policies.{grows, wiped_alike}
 -- memories are equal where all values and all conditions are
 pub memory_ext : (m n : Memory) → ((v : ℕ) → m.values v ≡ n.values v) → ((c : ℕ) → m.up c ≡ n.up c) → m ≡ n
 memory_ext m n h k = λ i. record { values = fun_ext h i; up = fun_ext k i }
+
+-- an update at a number that fails a test leaves those that pass it
+pub update_elsewhere : {A : Type 0} (test : ℕ → Bool) (f : ℕ → A) (a : ℕ) (x : A) → test a ≡ false → (n : ℕ) → test n ≡ true → f n ≡ update a x f n
+update_elsewhere test f a x failed n passed = go (eqb n a) refl
+  where
+    go : (b : Bool) → eqb n a ≡ b → f n ≡ cond b x (f n)
+    go true e = absurd (both_ways _ failed (ap test (sym (eqb-true n a e)) ∙ passed))
+    go false e = refl
 
 -- what an observer sees of a box with a sheet
 pub record View : Type 0 where
@@ -104,13 +112,9 @@ module _ {V : View} (F : Fair V) where
   pub write_hidden : (m : Memory) (v : ℕ) (x : ℤ) → visible V v ≡ false → Agree V m (write V.sheet v x m)
   write_hidden m v x o = go (wiped_by m.up (policy_of V.sheet v))
     where
-      entry : (w : ℕ) → visible V w ≡ true → (b : Bool) → eqb w v ≡ b → m.values w ≡ cond b x (m.values w)
-      entry w h true e = absurd (true≢false (sym h ∙ ap (visible V) (eqb-true w v e) ∙ o))
-      entry w h false e = refl
-
       go : (b : Bool) → Agree V m (cond b m (record { values = update v x m.values; up = m.up }))
       go true = agree_refl V m
-      go false = record { values = λ w h. entry w h (eqb w v) refl; up = λ c h. refl }
+      go false = record { values = update_elsewhere (visible V) m.values v x o; up = λ c h. refl }
 
   pub raised_both : (m n : Memory) (c : ℕ) → Agree V m n → Agree V (raised V.sheet c m) (raised V.sheet c n)
   raised_both m n c a = record {
@@ -121,19 +125,12 @@ module _ {V : View} (F : Fair V) where
   pub lowered_both : (m n : Memory) (c : ℕ) → Agree V m n → Agree V (lowered c m) (lowered c n)
   lowered_both m n c a = record { values = a.values; up = λ d h. ap (λ x. cond (eqb d c) false x) (a.up d h) }
 
-  update_hidden : (f : Set) (c : ℕ) (x : Bool) → sees_condition V c ≡ false → (d : ℕ) → sees_condition V d ≡ true → f d ≡ update c x f d
-  update_hidden f c x o d h = go (eqb d c) refl
-    where
-      go : (b : Bool) → eqb d c ≡ b → f d ≡ cond b x (f d)
-      go true e = absurd (true≢false (sym h ∙ ap (sees_condition V) (eqb-true d c e) ∙ o))
-      go false e = refl
-
   pub raised_hidden : (m : Memory) (c : ℕ) → sees_condition V c ≡ false → Agree V m (raised V.sheet c m)
-  raised_hidden m c o = record { values = λ v h. entry v h (wipes c (policy_of V.sheet v)) refl; up = update_hidden m.up c true o }
+  raised_hidden m c o = record { values = λ v h. entry v h (wipes c (policy_of V.sheet v)) refl; up = update_elsewhere (sees_condition V) m.up c true o }
     where
       entry : (v : ℕ) → visible V v ≡ true → (b : Bool) → wipes c (policy_of V.sheet v) ≡ b → m.values v ≡ cond b (pos 0) (m.values v)
       entry v h true e = absurd (true≢false (sym (seen_wipers v c h e) ∙ o))
       entry v h false e = refl
 
   pub lowered_hidden : (m : Memory) (c : ℕ) → sees_condition V c ≡ false → Agree V m (lowered c m)
-  lowered_hidden m c o = record { values = λ v h. refl; up = update_hidden m.up c false o }
+  lowered_hidden m c o = record { values = λ v h. refl; up = update_elsewhere (sees_condition V) m.up c false o }

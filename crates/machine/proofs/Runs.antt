@@ -1,7 +1,7 @@
 -- A pass: what a secret decides shows nowhere, and two memories that agree still agree after it.
 use Rattle.std.proofs.Common.{◌≡◌, ℕ, zero, suc, Bool, true, false, cond, eqb, List, [], ◌∷◌, ◌++◌, ℤ, sym, refl, ap, ◌∙◌, subst, ap₂, subst₂, true≢false, append_assoc}
 use mathlib.Core.Bool.{false≢true}
-use Rattle.std.proofs.lemmas.Bool.{or_left, or_right, eq-eqb}
+use Rattle.std.proofs.lemmas.Bool.{or_left, or_right, eq-eqb, false_from_ne_true}
 use Rattle.lattice.specs.Lattice.{Below}
 use Rattle.policy.specs.Policy.{Set, Policy, leaf, FlowsTo, level_under, present_level, wiped_by}
 use Rattle.policy.specs.Masks.{members}
@@ -12,6 +12,7 @@ use Rattle.machine.specs.Typing.{Context, under_variable, under_condition, under
 use Rattle.machine.specs.Memory.{Memory, update, write}
 use Rattle.machine.specs.Run.{Release, Outcome, done, spent, after, and_then, calculate, is_zero, released, loop, run}
 use Rattle.policy.proofs.Orders.{below_trans}
+use Rattle.machine.proofs.EveryRun.{branch}
 use Rattle.machine.proofs.Policies.{grows}
 use Rattle.machine.proofs.Memories.{View, Fair, sees, sees_condition, releases, visible, seen_visible, visible_declared, hidden_unseen, Agree, agree_refl, agree_sym, agree_trans, wiped_same, write_visible, write_hidden, raised_both, raised_hidden}
 
@@ -58,10 +59,6 @@ module _ (V : View) where
   quiet_then : (n : ℕ) (m : Memory) (o : Outcome) (f : ℕ → Memory → Outcome) → Quiet n m o → ((k : ℕ) (m' : Memory) → Quiet k m' (f k m')) → Quiet n m (and_then o f)
   quiet_then n m (done k m' l) f q h = quiet_after n k m m' l (f k m') q.0 q.1 q.2 (h k m')
   quiet_then n m (spent m' l) f q h = q
-
-  quiet_branch : (n : ℕ) (m : Memory) (t : Bool) (x y : Outcome) → Quiet n m x → Quiet n m y → Quiet n m (elim t [ true ↦ x | false ↦ y ])
-  quiet_branch n m true x y h k = h
-  quiet_branch n m false x y h k = k
 
   -- two outcomes alike
   abbrev Match : Outcome → Outcome → Type 0
@@ -121,7 +118,7 @@ module _ (V : View) where
       → Track (elim t [ true ↦ x | false ↦ y ]) (elim t' [ true ↦ x' | false ↦ y' ])
   track_test true n m m' a t t' x y x' y' e q h k = track_branch t t' (e refl) x y x' y' h k
   track_test false n m m' a t t' x y x' y' e q h k =
-      track_quiet n m m' _ _ a (quiet_branch n m t x y (q refl).0 (q refl).1) (quiet_branch n m' t' x' y' (q refl).2 (q refl).3)
+      track_quiet n m m' _ _ a (branch (Quiet n m) t x y (q refl).0 (q refl).1) (branch (Quiet n m') t' x' y' (q refl).2 (q refl).3)
 
 module _ {V : View} (F : Fair V) where
   -- a secret reaches nothing that can be seen
@@ -131,12 +128,8 @@ module _ {V : View} (F : Fair V) where
   secret_reach pc p (by_condition c h o) f k k' = true≢false (sym (below_trans F.lawful _ _ _ (f.conditions c h) k') ∙ o)
 
   target_unseen : (pc : Context) (a : ℕ) → Secret V pc → HasVariable V.sheet a → ContextFlowsTo V.lattice V.sheet pc (policy_of V.sheet a) → sees V a ≡ false
-  target_unseen pc a x d f = go (sees V a) refl
-    where
-      go : (b : Bool) → sees V a ≡ b → sees V a ≡ false
-      go true e =
-          absurd (secret_reach pc (policy_of V.sheet a) x f e (below_trans F.lawful _ _ _ (grows F.lawful V.observer.set (policy_of V.sheet a) (F.sheet.variables a d)) e))
-      go false e = e
+  target_unseen pc a x d f =
+      false_from_ne_true _ (λ e. secret_reach pc (policy_of V.sheet a) x f e (below_trans F.lawful _ _ _ (grows F.lawful V.observer.set (policy_of V.sheet a) (F.sheet.variables a d)) e))
 
   quiet_write : (n : ℕ) (m : Memory) (a : ℕ) (x : ℤ) → HasVariable V.sheet a → sees V a ≡ false → Quiet V n m (done n (write V.sheet a x m) [])
   quiet_write n m a x d o = (refl, write_hidden F m a x (visible_declared V a d ∙ o), refl)
@@ -160,17 +153,13 @@ module _ {V : View} (F : Fair V) where
   quiet (release a b p) pc x w n m =
       let s = members (permit_at V.sheet p).conditions in
       quiet_release n m a b p w.0 (target_unseen (under_conditions s pc) a (more_conditions V s pc x) w.0 w.3)
-  quiet (raise c) pc x w n m = (refl, raised_hidden F m c (go (sees_condition V c) refl), refl)
-    where
-      go : (b : Bool) → sees_condition V c ≡ b → sees_condition V c ≡ false
-      go true e = absurd (secret_reach pc (leaf (level_of V.sheet c)) x w.1 e e)
-      go false e = e
+  quiet (raise c) pc x w n m = (refl, raised_hidden F m c (false_from_ne_true _ (λ e. secret_reach pc (leaf (level_of V.sheet c)) x w.1 e e)), refl)
   quiet (if_variable b c d) pc x w n m =
       let y = more_variable V b pc x in
-      quiet_branch V n m (is_zero (m.values b)) _ _ (quiet d (under_variable b pc) y w.2 n m) (quiet c (under_variable b pc) y w.1 n m)
+      branch (Quiet V n m) (is_zero (m.values b)) _ _ (quiet d (under_variable b pc) y w.2 n m) (quiet c (under_variable b pc) y w.1 n m)
   quiet (if_condition a c d) pc x w n m =
       let y = more_conditions V (λ i. eqb i a) pc x in
-      quiet_branch V n m (m.up a) _ _ (quiet c (under_condition a pc) y w.1 n m) (quiet d (under_condition a pc) y w.2 n m)
+      branch (Quiet V n m) (m.up a) _ _ (quiet c (under_condition a pc) y w.1 n m) (quiet d (under_condition a pc) y w.2 n m)
   quiet (while b c) pc x w n m =
       let k = F.lawful.lowest_below _ F.level in
       absurd (secret_reach (under_variable b pc) (leaf V.lattice.lowest) (more_variable V b pc x) w.1 k k)

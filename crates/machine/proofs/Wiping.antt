@@ -1,18 +1,19 @@
 -- While a condition that wipes a variable is up, the variable is zero: at the start, and after every command and every call.
-use Rattle.std.proofs.Common.{◌≡◌, ℕ, zero, suc, Bool, true, false, cond, eqb, List, [], ◌∷◌, ℤ, pos, sym, refl, ap, ◌∙◌, true≢false}
+use Rattle.std.proofs.Common.{◌≡◌, ℕ, Bool, true, false, cond, eqb, List, [], ◌∷◌, ℤ, pos, sym, refl, ◌∙◌}
 use mathlib.Core.Bool.{false≢true}
 use mathlib.Core.Option.{Option, none, some}
-use Rattle.std.proofs.lemmas.Bool.{eqb-true}
 use Rattle.records.specs.Rules.{Reading, accepted, refused}
 use Rattle.policy.specs.Policy.{wipes, wiped_by}
 use Rattle.sheet.specs.Sheet.{Sheet, policy_of}
-use Rattle.machine.specs.Command.{Command, skip, ◌⨾◌, set, combine, release, raise, if_variable, if_condition, while}
+use Rattle.machine.specs.Command.{Command}
 use Rattle.machine.specs.Memory.{Memory, update, write, raised, lowered}
-use Rattle.machine.specs.Run.{Release, Outcome, done, spent, after, and_then, calculate, is_zero, released, loop, run}
+use Rattle.machine.specs.Run.{Release, Outcome, done, spent, after, and_then, run}
 use Rattle.machine.specs.Calls.{Call}
 use Rattle.machine.specs.Machine.{System, State, bare, ready, begun, loaded, ended, passed, rules_of, effect, first_step, step, final}
 use Rattle.machine.specs.Promises.{Wiped, WipedWhileUp}
 use Rattle.machine.proofs.Asking.{asked_keeps}
+use Rattle.machine.proofs.EveryRun.{every_run}
+use Rattle.machine.proofs.Memories.{update_elsewhere}
 use Rattle.machine.proofs.Policies.{wiped_more, wiped_alike, wiped_one}
 
 abbrev pub Clean : Sheet → Memory → Type 0
@@ -22,24 +23,16 @@ module _ (sh : Sheet) where
   clean_write : (a : ℕ) (x : ℤ) (m : Memory) → Clean sh m → Clean sh (write sh a x m)
   clean_write a x m h = go (wiped_by m.up (policy_of sh a)) refl
     where
-      entry : (v : ℕ) → wiped_by m.up (policy_of sh a) ≡ false → wiped_by m.up (policy_of sh v) ≡ true → (b : Bool) → eqb v a ≡ b → cond b x (m.values v) ≡ pos 0
-      entry v e k true q = absurd (true≢false (sym k ∙ ap (λ i. wiped_by m.up (policy_of sh i)) (eqb-true v a q) ∙ e))
-      entry v e k false q = h v k
-
       go : (w : Bool) → wiped_by m.up (policy_of sh a) ≡ w → Clean sh (cond w m (record { values = update a x m.values; up = m.up }))
       go true e = h
-      go false e = λ v k. entry v e k (eqb v a) refl
+      go false e = λ v k. sym (update_elsewhere (λ i. wiped_by m.up (policy_of sh i)) m.values a x e v k) ∙ h v k
 
   clean_raised : (c : ℕ) (m : Memory) → Clean sh m → Clean sh (raised sh c m)
   clean_raised c m h v k = go (wipes c (policy_of sh v)) refl
     where
       go : (b : Bool) → wipes c (policy_of sh v) ≡ b → cond b (pos 0) (m.values v) ≡ pos 0
       go true e = refl
-      go false e = h v (wiped_alike m.up (update c true m.up) (policy_of sh v) (λ d u. entry d u (eqb d c) refl) ∙ k)
-        where
-          entry : (d : ℕ) → wipes d (policy_of sh v) ≡ true → (b : Bool) → eqb d c ≡ b → m.up d ≡ cond b true (m.up d)
-          entry d u true q = absurd (true≢false (sym u ∙ ap (λ i. wipes i (policy_of sh v)) (eqb-true d c q) ∙ e))
-          entry d u false q = refl
+      go false e = h v (wiped_alike m.up (update c true m.up) (policy_of sh v) (update_elsewhere (λ i. wipes i (policy_of sh v)) m.up c true e) ∙ k)
 
   clean_lowered : (c : ℕ) (m : Memory) → Clean sh m → Clean sh (lowered c m)
   clean_lowered c m h v k = h v (wiped_more (update c false m.up) m.up (policy_of sh v) (λ d u. entry d (eqb d c) u) k)
@@ -60,27 +53,15 @@ module _ (sh : Sheet) where
   clean_then (done n m l) f h k = clean_after l (f n m) (k n m h)
   clean_then (spent m l) f h k = h
 
-  clean_branch : (t : Bool) (x y : Outcome) → CleanEnd x → CleanEnd y → CleanEnd (elim t [ true ↦ x | false ↦ y ])
-  clean_branch true x y h k = h
-  clean_branch false x y h k = k
-
-  clean_loop : (b : ℕ) (body : ℕ → Memory → Outcome) → ((n : ℕ) (m : Memory) → Clean sh m → CleanEnd (body n m)) → (bound n : ℕ) (m : Memory) → Clean sh m → CleanEnd (loop bound b body n m)
-  clean_loop b body f zero n m h = clean_branch (is_zero (m.values b)) (done n m []) (spent m []) h h
-  clean_loop b body f (suc bound) n m h =
-      let turn : ℕ → Outcome = λ k. elim k [ zero ↦ spent m [] | suc j ↦ and_then (body j m) (loop bound b body) ] in
-      let again : (k : ℕ) → CleanEnd (turn k) = elim [ zero ↦ h | suc j ↦ clean_then (body j m) (loop bound b body) (f j m h) (clean_loop b body f bound) ] in
-      clean_branch (is_zero (m.values b)) (done n m []) (turn n) h (again n)
-
   clean_run : (c : Command) (n : ℕ) (m : Memory) → Clean sh m → CleanEnd (run sh c n m)
-  clean_run skip n m h = h
-  clean_run (c ⨾ d) n m h = clean_then (run sh c n m) (run sh d) (clean_run c n m h) (clean_run d)
-  clean_run (set a x) n m h = clean_write a x m h
-  clean_run (combine s a b c) n m h = clean_write a (calculate s (m.values b) (m.values c)) m h
-  clean_run (release a b p) n m h = clean_write a (released sh b p m) m h
-  clean_run (raise c) n m h = clean_raised c m h
-  clean_run (if_variable b c d) n m h = clean_branch (is_zero (m.values b)) (run sh d n m) (run sh c n m) (clean_run d n m h) (clean_run c n m h)
-  clean_run (if_condition a c d) n m h = clean_branch (m.up a) (run sh c n m) (run sh d n m) (clean_run c n m h) (clean_run d n m h)
-  clean_run (while b c) n m h = clean_loop b (run sh c) (clean_run c) n n m h
+  clean_run = every_run sh {P = λ n m o. Clean sh m → CleanEnd o} (record {
+    ends = λ n m h. h;
+    stops = λ n m h. h;
+    writes = λ n a x m l. clean_write a x m;
+    raises = λ n c m. clean_raised c m;
+    turns = λ n m o h. h;
+    goes_on = λ n m o f h k clean. clean_then o f (h clean) k;
+  })
 
 abbrev pub CleanState : State → Type 0
 CleanState bare = Unit {0}
