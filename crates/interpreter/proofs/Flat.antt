@@ -67,12 +67,12 @@ module _ (rs : List Instruction) (count : ℕ) (sh : Sheet) where
       let b : u' ≡ u = cc in
       let d : n' ≡ n = cc in
       subst (λ (i : ℕ). Flat i u n e) a (subst (λ (i : ℕ). Flat q' i n e) b (subst (λ i. Flat q' u' i e) d f))
-  step (halt h y) l x = let z : ◌≡◌ {A = ℕ} 0 1 = cc in absurd (omega arith)
+  step (halt h y) l x = cc
 
   pub here : {p t q u : ℕ} {m n : Memory} {e : Ending} → Flat p t m e → p < count → next sh (get_or rs p unset) p t m ≡ goes q u n → Placed (plain (get_or rs p unset))
   here (over h) l x = absurd (omega arith)
   here (on h k y f) l x = k
-  here (halt h y) l x = let z : ◌≡◌ {A = ℕ} 0 1 = cc in absurd (omega arith)
+  here (halt h y) l x = cc
 
   -- these instructions stand in the program, from position p on
   abbrev pub Part : ℕ → List Instruction → Type 0
@@ -102,20 +102,14 @@ module _ (rs : List Instruction) (count : ℕ) (sh : Sheet) where
 
   long : (c : Command) → length (linked c) ≡ size c
   long skip = refl
-  long (c ⨾ d) = length-append (linked c) (linked d) ∙ omega (arith, long c, long d)
+  long (c ⨾ d) = simp (length-append, long c, long d)
   long (set a x) = refl
   long (combine s a b c) = refl
   long (release a b r) = refl
   long (raise c) = refl
-  long (if_variable b c d) =
-      let p = length-append (linked c) (Jump (size d + 1) ∷ (linked d ++ (End ∷ []))) in
-      let q = length-append (linked d) (End ∷ []) in
-      omega (arith, long c, long d, p, q)
-  long (if_condition a c d) =
-      let p = length-append (linked c) (Jump (size d + 1) ∷ (linked d ++ (End ∷ []))) in
-      let q = length-append (linked d) (End ∷ []) in
-      omega (arith, long c, long d, p, q)
-  long (while b c) = let p = length-append (linked c) (Again b (size c + 1) ∷ []) in omega (arith, long c, p)
+  long (if_variable b c d) = simp (length-append, long c, long d) (omega arith)
+  long (if_condition a c d) = simp (length-append, long c, long d) (omega arith)
+  long (while b c) = simp (length-append, long c) (omega arith)
 
   -- the instructions after those of a command
   rest : (p : ℕ) (c : Command) (ys : List Instruction) → Part p (linked c ++ ys) → Part (p + size c) ys

@@ -1,9 +1,8 @@
 -- What the code does with masks and a store's values is what the machine does to its memory. Assumes nothing.
-use Rattle.std.proofs.Common.{◌≡◌, ℕ, ◌<◌, Bool, true, false, cond, not, ◌&&◌, eqb, ltb, List, length, get_or, set, ℤ, pos, sym, refl, ap, ◌∙◌, arith}
+use Rattle.std.proofs.Common.{◌≡◌, ℕ, ◌<◌, cond, not, ◌&&◌, eqb, ltb, List, length, get_or, set, ℤ, pos, refl, ap, ◌∙◌, arith}
 use lib.Bits.{bit_and}
 use lib.ListN.{get_or-eq_default}
 use Rattle.std.proofs.lemmas.Grind.{common_steps}
-use Rattle.std.proofs.lemmas.Bool.{both_ways, eq-eqb, ne_eqb}
 use Rattle.policy.specs.Policy.{wiped_by}
 use Rattle.policy.specs.Masks.{bit, members}
 use Rattle.policy.specs.Rows.{including}
@@ -14,9 +13,6 @@ use Rattle.machine.proofs.Memories.{memory_ext}
 use Rattle.flow.specs.declared.masks.FlowMasks.{FlowMasks}
 use Rattle.flow.specs.Flows.{no_variable_flow}
 use Rattle.interpreter.specs.Meaning.{Enforces, memory_of}
-
-set_is : (xs : List ℤ) (a v : ℕ) (x : ℤ) → a < length xs → get_or (set xs a x) v (pos 0) ≡ cond (eqb v a) x (get_or xs v (pos 0))
-set_is xs a v x h = grind (arith, common_steps)
 
 inside : (m : FlowMasks) (v c : ℕ) → (ltb v 64 && bit c (get_or m.variable v no_variable_flow).wipers) ≡ bit c (get_or m.variable v no_variable_flow).wipers
 inside m v c = grind (arith, common_steps, get_or-eq_default, bit_zero, m.sizes.0)
@@ -32,7 +28,7 @@ module _ (m : FlowMasks) (sh : Sheet) (E : Enforces m sh) where
     -- no wiper is up
     pub write_lands : a < length xs → bit_and (get_or m.variable a no_variable_flow).wipers u ≡ 0 → memory_of (set xs a x) u ≡ write sh a x (memory_of xs u)
     write_lands h z =
-        memory_ext (memory_of (set xs a x) u) put (λ v. set_is xs a v x h) (λ c. refl)
+        memory_ext (memory_of (set xs a x) u) put (λ v. grind (arith, common_steps)) (λ c. refl)
         ∙ grind (arith, common_steps, mask)
 
     -- a wiper is up

@@ -20,7 +20,8 @@ use Rattle.program.specs.Valid.{Nested, NumbersFit, Valid, before, normal}
 use Rattle.program.specs.Acceptance.{UsableSheet}
 use Rattle.program.proofs.Deciding.{flows_complete}
 use Rattle.program.proofs.Steps as steps
-use Rattle.program.proofs.Contexts.{Declared, declared_outermost, declared_variable_lem, declared_condition_lem, within_passes, within_flows, reads_two, permit_declared}
+use Rattle.program.specs.Reading.{Declared}
+use Rattle.program.proofs.Contexts.{declared_outermost, declared_variable_lem, declared_condition_lem, within_passes, within_flows, reads_two, permit_declared}
 
 abbrev J : Record
 J = fields 74 0 0 0

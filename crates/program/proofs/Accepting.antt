@@ -24,7 +24,8 @@ use Rattle.program.specs.Valid.{Nested, NumbersFit}
 use Rattle.program.specs.Acceptance.{UsableSheet}
 use Rattle.program.proofs.Deciding.{flows_sound}
 use Rattle.program.proofs.Steps as steps
-use Rattle.program.proofs.Contexts.{Declared, declared_outermost, declared_variable_lem, declared_condition_lem, HasTested, declared_tested, within_took, flows_within, two_read, permit_declared}
+use Rattle.program.specs.Reading.{Declared}
+use Rattle.program.proofs.Contexts.{declared_outermost, declared_variable_lem, declared_condition_lem, HasTested, declared_tested, within_took, flows_within, two_read, permit_declared}
 
 -- ── records by their kind ──
 

@@ -29,7 +29,7 @@ use Rattle.program.specs.Reading.{context_of, Declared, Alike, Refused, Named, P
 use Rattle.program.specs.Forward.{SameEnd, BlockForward}
 use Rattle.program.proofs.ContextMasks.{masked_variable, masked_condition}
 use Rattle.program.proofs.LetterSteps.{kept_sign-of, kind_found}
-use Rattle.program.proofs.Reaches.{declared_variable_lem, declared_condition_lem}
+use Rattle.program.proofs.Reaches.{declared_variable, declared_condition}
 use Rattle.program.proofs.Steps as steps
 
 -- ── where instructions stand ──
@@ -241,7 +241,7 @@ module _ (m : FlowMasks) (pc : Masks) (opened : ℕ) (inner : Option Innermost) 
     lawful = A.lawful;
     usable = A.usable;
     masks = A.masks;
-    declared = subst (Declared sh) (sym e) (declared_variable_lem sh pc r.b (omega (arith, tested_there, m.counts)) (subst (λ n. ltb r.b n ≡ true) A.masks.variables (lt-ltb r.b m.variables tested_there)) A.declared);
+    declared = subst (λ x. Declared sh (context_of x)) (sym e) (declared_variable sh pc r.b (omega (arith, tested_there, m.counts)) (subst (λ n. ltb r.b n ≡ true) A.masks.variables (lt-ltb r.b m.variables tested_there)) A.declared);
     depth = deeper blocks (loop_block r.b (context_of pc) around) opened A.depth;
     innermost = refl;
   }
@@ -308,7 +308,7 @@ module _ (m : FlowMasks) (pc : Masks) (opened : ℕ) (inner : Option Innermost) 
       record {
         opens = λ n. refl;
         under = masked_variable r.b pc.variables pc.conditions small ∙ ap context_of (sym e);
-        declared = λ C sh blocks A. subst (Declared sh) (sym e) (declared_variable_lem sh pc r.b small (subst (λ n. ltb r.b n ≡ true) A.masks.variables (lt-ltb r.b m.variables v)) A.declared);
+        declared = λ C sh blocks A. subst (λ x. Declared sh (context_of x)) (sym e) (declared_variable sh pc r.b small (subst (λ n. ltb r.b n ≡ true) A.masks.variables (lt-ltb r.b m.variables v)) A.declared);
         goes = λ C sh blocks around A rs. p.goes C sh blocks around A rs ∙ ap (λ x. answer C sh (established (at place blocks (context_of pc) around) r x) rs) q;
       }
 
@@ -320,7 +320,7 @@ module _ (m : FlowMasks) (pc : Masks) (opened : ℕ) (inner : Option Innermost) 
       record {
         opens = λ n. refl;
         under = masked_condition r.a pc.variables pc.conditions small ∙ ap context_of (sym e);
-        declared = λ C sh blocks A. subst (Declared sh) (sym e) (declared_condition_lem sh pc r.a small (subst (λ n. ltb r.a n ≡ true) A.masks.conditions (lt-ltb r.a m.conditions v)) A.declared);
+        declared = λ C sh blocks A. subst (λ x. Declared sh (context_of x)) (sym e) (declared_condition sh pc r.a small (subst (λ n. ltb r.a n ≡ true) A.masks.conditions (lt-ltb r.a m.conditions v)) A.declared);
         goes = λ C sh blocks around A rs. p.goes C sh blocks around A rs ∙ ap (λ x. answer C sh (established (at place blocks (context_of pc) around) r x) rs) q;
       }
 
@@ -358,12 +358,6 @@ module _ (m : FlowMasks) (pc : Masks) (opened : ℕ) (inner : Option Innermost) 
       → answer C sh (at place blocks (context_of pc) around) (r ∷ rs) ≡ answer C sh (at (place + 1) (then_block t (context_of pc) around ∷ blocks) (context_of inside) (λ c. c)) rs
   test_opens C sh blocks around A = T.goes C sh blocks around A rs ∙ ap (λ x. answer C sh (at (place + 1) (then_block t (context_of pc) around ∷ blocks) x (λ c. c)) rs) T.under
 
-  pub first_refused : (x : Refusal) → Refused m inside (opened + 1) (Some First) (place + 1) rs x → Refused m pc opened inner place (r ∷ rs) x
-  first_refused x f = record {
-    says = λ C sh blocks around A.
-        test_opens C sh blocks around A ∙ f.says C sh (then_block t (context_of pc) around ∷ blocks) (λ c. c) (within C sh blocks (then_block t (context_of pc) around) (Some First) refl A);
-  }
-
   module _ (xs ys : List Instruction) (middle : ℕ) (second : List Record) (B : BlockRead m inside (opened + 1) (Some First) (place + 1) rs xs ys middle second) where
     abbrev then_block_lem : Command
     then_block_lem = body B.reads
@@ -379,12 +373,6 @@ module _ (m : FlowMasks) (pc : Masks) (opened : ℕ) (inner : Option Innermost) 
         ∙ mark.goes C sh bs (λ c. B.reads.commands c) A' second
         ∙ ap (λ x. answer C sh (established (at middle bs (context_of inside) (λ c. B.reads.commands c)) k x) second) (kind_found (Some Mark) k.letter (Some First) mark.is)
         ∙ ap (λ x. answer C sh (at (middle + 1) (else_block t then_block_lem (context_of pc) around ∷ blocks) x (λ c. c)) second) T.under
-
-    pub second_refused : (x : Refusal) → Refused m inside (opened + 1) (Some Second) (middle + 1) second x → Refused m pc opened inner place (r ∷ rs) x
-    second_refused x f = record {
-      says = λ C sh blocks around A.
-          test_turns C sh blocks around A ∙ f.says C sh (else_block t then_block_lem (context_of pc) around ∷ blocks) (λ c. c) (within C sh blocks (else_block t then_block_lem (context_of pc) around) (Some Second) refl A);
-    }
 
     module _ (zs : List Instruction) (end : ℕ) (rest : List Record) (D : BlockRead m inside (opened + 1) (Some Second) (middle + 1) second ys zs end rest) where
       abbrev else_block_lem : Command

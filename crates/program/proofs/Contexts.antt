@@ -1,22 +1,19 @@
 -- Contexts whose variables and conditions are declared: the rules on what reaches a target hold just where the context flows to it.
-use Rattle.std.proofs.Common.{◌≡◌, ℕ, ◌+◌, ◌<◌, true, not, ◌||◌, eqb, length, sym, refl, ap, ◌∙◌, subst, inl, inr, arith}
+use Rattle.std.proofs.Common.{◌≡◌, ℕ, ◌+◌, ◌<◌, true, not, ◌||◌, eqb, length, sym, refl, ◌∙◌, subst, inl, inr, arith}
 use mathlib.Core.Bool.{false≢true}
 use Rattle.std.proofs.lemmas.Bool.{or_cases, or_left, or_right, eq-eqb, eqb-true, ltb-true}
 use Rattle.lattice.specs.Lattice.{Lattice, Lawful}
 use Rattle.records.specs.Rules.{Reading, accepted, Rule, rule, each_from, first}
-use Rattle.records.proofs.Firsts.{first_append, each_holds, each_same, took_each, implies, implied}
+use Rattle.records.proofs.Firsts.{first_append, each_holds, took_each, implies, implied}
 use Rattle.policy.specs.Policy.{Set, add, Policy, KnownLevels, FlowsTo}
 use Rattle.policy.specs.Masks.{members}
 use Rattle.sheet.specs.Sheet.{Sheet, policy_of, permit_at}
 use Rattle.machine.specs.SoundSheet.{HasVariable, HasCondition, HasPermit}
 use Rattle.machine.specs.Typing.{Context, outermost, under_variable, under_condition, under_conditions, ContextFlowsTo}
 use Rattle.program.specs.Rules.{Test, on_variable, on_condition, tested, widest, each_within}
+use Rattle.program.specs.Reading.{Declared}
 use Rattle.program.specs.Acceptance.{UsableSheet}
 use Rattle.program.proofs.Deciding.{flows_sound, flows_complete}
-
-pub record Declared (sh : Sheet) (pc : Context) : Type 0 where
-  pub variables : (v : ℕ) → pc.variables v ≡ true → HasVariable sh v
-  pub conditions : (c : ℕ) → pc.conditions c ≡ true → HasCondition sh c
 
 pub declared_outermost : (sh : Sheet) → Declared sh outermost
 declared_outermost sh = record { variables = λ v h. absurd (false≢true h); conditions = λ c h. absurd (false≢true h) }
@@ -69,25 +66,6 @@ within_took number place pc wide a x h =
       },
       u.1,
     )
-
--- two contexts that agree on the numbers that there may be
-pub record Alike (pc pc' : Context) : Type 0 where
-  pub variables : (v : ℕ) → v < 64 → pc.variables v ≡ pc'.variables v
-  pub conditions : (c : ℕ) → c < 16 → pc.conditions c ≡ pc'.conditions c
-
--- the rules are the same over contexts that agree, as over masks
-pub within_alike : {X : Type 0} (number place : ℕ) (pc pc' wide wide' : Context) (a : Reading X) → Alike pc pc' → Alike wide wide'
-    → first (each_within number place pc wide) a ≡ first (each_within number place pc' wide') a
-unfolding each_within
-within_alike number place pc pc' wide wide' a p w =
-    let fv : ℕ → Rule = λ v. rule number place v (not (pc.variables v) || wide.variables v) in
-    let fc : ℕ → Rule = λ c. rule number place (256 + c) (not (pc.conditions c) || wide.conditions c) in
-    let gv : ℕ → Rule = λ v. rule number place v (not (pc'.variables v) || wide'.variables v) in
-    let gc : ℕ → Rule = λ c. rule number place (256 + c) (not (pc'.conditions c) || wide'.conditions c) in
-    first_append (each_from 0 64 fv) (each_from 0 16 fc) a
-    ∙ each_same 0 64 fv gv _ (λ v l i. rule number place v (not (p.variables v l i) || w.variables v l i))
-    ∙ ap (first (each_from 0 64 gv)) (each_same 0 16 fc gc a (λ c l i. rule number place (256 + c) (not (p.conditions c l i) || w.conditions c l i)))
-    ∙ sym (first_append (each_from 0 64 gv) (each_from 0 16 gc) a)
 
 module _ {C : Lattice} (W : Lawful C) (sh : Sheet) (U : UsableSheet C sh) where
   -- a declared context lies within the widest just where it flows to the target

@@ -1,12 +1,10 @@
 -- The rules on what reaches a target, over a sheet's masks. Assumes nothing.
-use Rattle.std.proofs.Common.{◌≡◌, ℕ, ◌+◌, ◌*◌, ◌%◌, ◌^◌, ◌<◌, Bool, true, false, not, ◌||◌, eqb, Decides, sym, refl, ap, ◌∙◌, subst, inl, inr, arith}
-use Rattle.std.proofs.lemmas.Bool.{or_cases, eqb-true}
+use Rattle.std.proofs.Common.{◌≡◌, ℕ, ◌+◌, ◌*◌, ◌%◌, ◌^◌, ◌<◌, Bool, true, false, not, ◌||◌, Decides, sym, refl, ap, ◌∙◌, subst}
 use Rattle.lattice.specs.Lattice.{Lattice, Lawful}
 use Rattle.records.specs.Rules.{Reading, Rule, rule, each_from, first}
 use Rattle.records.proofs.Firsts.{first_append, each_same}
 use Rattle.policy.specs.Policy.{Policy, KnownLevels, FlowsTo, present_level}
-use Rattle.policy.specs.Masks.{bit}
-use Rattle.policy.proofs.Masks.{bit_or_lem, bit_including, bit_zero}
+use Rattle.policy.specs.Masks.{bit, members}
 use Rattle.sheet.specs.Sheet.{Sheet, policy_of, level_of}
 use Rattle.machine.specs.SoundSheet.{HasVariable, HasCondition}
 use Rattle.flow.specs.declared.masks.Inflow.{Inflow}
@@ -18,34 +16,24 @@ use Rattle.program.specs.Checks.{masked}
 use Rattle.program.specs.Contexts.{under_none, with_variable, with_conditions}
 use Rattle.program.specs.Reading.{context_of, Declared}
 use Rattle.program.specs.Acceptance.{UsableSheet}
-use Rattle.program.proofs.ContextMasks.{bit_variable}
+use Rattle.program.proofs.ContextMasks.{masked_outermost, masked_variable, masked_condition, masked_conditions}
+use Rattle.program.proofs.Contexts.{declared_outermost, declared_variable_lem, declared_condition_lem, declared_conditions}
 use Rattle.program.proofs.Deciding.{decides_flow}
 
 -- ── declared contexts ──
 
-pub declared_none : (sh : Sheet) → Declared sh under_none
-declared_none sh = record { variables = λ v h. absurd (never (sym (bit_zero v) ∙ h)); conditions = λ c h. absurd (never (sym (bit_zero c) ∙ h)) }
-  where
-    never : false ≡ true → ⊥
-    never e = let z : ◌≡◌ {A = ℕ} 0 1 = cc e in omega arith
+pub declared_none : (sh : Sheet) → Declared sh (context_of under_none)
+declared_none sh = subst (Declared sh) masked_outermost (declared_outermost sh)
 
-pub declared_variable_lem : (sh : Sheet) (pc : Masks) (v : ℕ) → v < 64 → HasVariable sh v → Declared sh pc → Declared sh (with_variable v pc)
-declared_variable_lem sh pc v l h d = record {
-  variables = λ u e. elim (or_cases (eqb u v) (bit u pc.variables) (sym (bit_variable v pc.variables u l) ∙ e)) [ inl q ↦ subst (HasVariable sh) (sym (eqb-true u v q)) h | inr q ↦ d.variables u q ];
-  conditions = d.conditions;
-}
+module _ (sh : Sheet) (pc : Masks) where
+  pub declared_variable : (v : ℕ) → v < 64 → HasVariable sh v → Declared sh (context_of pc) → Declared sh (context_of (with_variable v pc))
+  declared_variable v l h d = subst (Declared sh) (masked_variable v pc.variables pc.conditions l) (declared_variable_lem sh v (context_of pc) h d)
 
-pub declared_conditions : (sh : Sheet) (pc : Masks) (mask : ℕ) → ((c : ℕ) → bit c mask ≡ true → HasCondition sh c) → Declared sh pc → Declared sh (with_conditions mask pc)
-declared_conditions sh pc mask h d = record {
-  variables = d.variables;
-  conditions = λ c e. elim (or_cases (bit c mask) (bit c pc.conditions) (sym (bit_or_lem c pc.conditions mask) ∙ e)) [ inl q ↦ h c q | inr q ↦ d.conditions c q ];
-}
+  pub declared_masks : (mask : ℕ) → ((c : ℕ) → bit c mask ≡ true → HasCondition sh c) → Declared sh (context_of pc) → Declared sh (context_of (with_conditions mask pc))
+  declared_masks mask h d = subst (Declared sh) (masked_conditions mask pc.variables pc.conditions) (declared_conditions sh (members mask) (context_of pc) h d)
 
-pub declared_condition_lem : (sh : Sheet) (pc : Masks) (c : ℕ) → c < 16 → HasCondition sh c → Declared sh pc → Declared sh (with_conditions ((1 * 2 ^ c) % 2 ^ 16) pc)
-declared_condition_lem sh pc c l h d = record {
-  variables = d.variables;
-  conditions = λ u e. elim (or_cases (eqb u c) (bit u pc.conditions) (sym (bit_including c pc.conditions u l) ∙ e)) [ inl q ↦ subst (HasCondition sh) (sym (eqb-true u c q)) h | inr q ↦ d.conditions u q ];
-}
+  pub declared_condition : (c : ℕ) → c < 16 → HasCondition sh c → Declared sh (context_of pc) → Declared sh (context_of (with_conditions ((1 * 2 ^ c) % 2 ^ 16) pc))
+  declared_condition c l h d = subst (Declared sh) (masked_condition c pc.variables pc.conditions l) (declared_condition_lem sh c (context_of pc) h d)
 
 -- ── two tests that decide one thing ──
 
@@ -69,7 +57,7 @@ module _ {C : Lattice} (W : Lawful C) (sh : Sheet) (U : UsableSheet C sh) where
   flowing_mask p mask v k V h = decide_alike (flows C p (policy_of sh v)) (bit v mask) ((decides_flow W).decides p (policy_of sh v) k (U.sound.variables v h)) (V.decides v h)
 
   -- the widest context that may reach a target, as masks
-  pub reaches : {X : Type 0} (number place : ℕ) (pc : Masks) (f : Inflow) (p : Policy) (a : Reading X) → Declared sh pc → KnownLevels C p → Admits C sh f p
+  pub reaches : {X : Type 0} (number place : ℕ) (pc : Masks) (f : Inflow) (p : Policy) (a : Reading X) → Declared sh (context_of pc) → KnownLevels C p → Admits C sh f p
       → first (each_within number place (context_of pc) (widest C sh p)) a ≡ first (each_within number place (context_of pc) (masked f.variables f.conditions)) a
   unfolding each_within
   reaches number place pc f p a d k A =

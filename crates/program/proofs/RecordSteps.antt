@@ -32,7 +32,7 @@ use Rattle.program.specs.Letters.{kind_at}
 use Rattle.program.specs.Reading.{context_of, Declared, Alike, Refused, Named, Passed}
 use Rattle.program.proofs.ContextMasks.{masked_variable, masked_conditions}
 use Rattle.program.proofs.LetterSteps.{Letter, letter_of_lem, kind_found, first_in, last_in, first_in_lem, last_in_lem}
-use Rattle.program.proofs.Reaches.{declared_variable_lem, declared_conditions, flows_mask, flowing_mask, reaches}
+use Rattle.program.proofs.Reaches.{declared_variable, declared_masks, flows_mask, flowing_mask, reaches}
 use Rattle.program.proofs.Steps as steps
 
 -- ── the rules of a record, over a sheet's masks ──
@@ -91,7 +91,7 @@ module _ (m : FlowMasks) (pc : Masks) (opened : ℕ) (inner : Option Innermost) 
     pub target : Lattice → Sheet → Policy
     pub asks : Asks kd (λ C sh a. first F (first (each_within number place context (widest C sh (target C sh))) a))
     pub masks : AllHold F → context ≡ context_of within
-    pub admits : AllHold F → (C : Lattice) (sh : Sheet) (blocks : List Block) → Alike C sh m pc opened inner blocks → Declared sh within × KnownLevels C (target C sh) × Admits C sh (inflow x) (target C sh)
+    pub admits : AllHold F → (C : Lattice) (sh : Sheet) (blocks : List Block) → Alike C sh m pc opened inner blocks → Declared sh (context_of within) × KnownLevels C (target C sh) × Admits C sh (inflow x) (target C sh)
     pub zero : AllHold F → rest_zero r kd ≡ true
     pub names : AllHold F → Named m r kd
 
@@ -183,8 +183,8 @@ module _ (m : FlowMasks) (pc : Masks) (opened : ℕ) (inner : Option Innermost) 
             ∙ masked_variable r.b (with_variable r.c pc).variables pc.conditions (place_of r.b p.1.1.0);
         admits = λ p C sh blocks A.
             let v = has_variable r.a A p.1.0 in (
-              declared_variable_lem sh (with_variable r.c pc) r.b (place_of r.b p.1.1.0) (has_variable r.b A p.1.1.0)
-                  (declared_variable_lem sh pc r.c (place_of r.c p.1.1.1.0) (has_variable r.c A p.1.1.1.0) A.declared),
+              declared_variable sh (with_variable r.c pc) r.b (place_of r.b p.1.1.0) (has_variable r.b A p.1.1.0)
+                  (declared_variable sh pc r.c (place_of r.c p.1.1.1.0) (has_variable r.c A p.1.1.1.0) A.declared),
               A.usable.sound.variables r.a v,
               A.masks.variable r.a v,
             );
@@ -205,7 +205,7 @@ module _ (m : FlowMasks) (pc : Masks) (opened : ℕ) (inner : Option Innermost) 
             ∙ (λ i. first (variable_test_fields r place (sym A.masks.variables i) (A.depth i)) (first (each_within 17 place (under_variable r.b (context_of pc)) (widest C sh (leaf C.lowest))) (answer C sh (established (at place blocks (context_of pc) commands) r loops) rs)));
         masks = λ p. masked_variable r.b pc.variables pc.conditions (place_of r.b p.1.0);
         admits = λ p C sh blocks A.
-            (declared_variable_lem sh pc r.b (place_of r.b p.1.0) (has_variable r.b A p.1.0) A.declared, A.lawful.lowest_known, A.masks.lowest);
+            (declared_variable sh pc r.b (place_of r.b p.1.0) (has_variable r.b A p.1.0) A.declared, A.lawful.lowest_known, A.masks.lowest);
         zero = λ p. p.0;
         names = λ p. ltb-true r.b m.variables p.1.0;
       }
@@ -313,7 +313,7 @@ module _ (m : FlowMasks) (pc : Masks) (opened : ℕ) (inner : Option Innermost) 
         let U = A.usable in
         let mask = (permit_at sh r.c).conditions in
         let c : under_conditions (members mask) (context_of pc) ≡ context_of (with_conditions mask pc) = masked_conditions mask pc.variables pc.conditions in
-        let d : Declared sh (with_conditions mask pc) = declared_conditions sh pc mask (λ n e. U.sound.named r.c n has_p e) A.declared in
+        let d : Declared sh (context_of (with_conditions mask pc)) = declared_masks sh pc mask (λ n e. U.sound.named r.c n has_p e) A.declared in
         let to : flows C (permit_at sh r.c).to (policy_of sh r.a) ≡ bit r.a permit.targets = flowing_mask W sh U (permit_at sh r.c).to permit.targets r.a known.1 P.targets hasA in
         let from : flows C (policy_of sh r.b) (permit_at sh r.c).from ≡ bit r.b permit.sources = flows_mask W sh U (permit_at sh r.c).from permit.sources r.b known.0 P.sources has_b in
         release_asks C sh blocks commands A rs ∙ first_holds threes _ p.1

@@ -4,7 +4,6 @@ use Rattle.lattice.specs.Lattice.{Lattice, Lawful}
 use Rattle.records.specs.declared.Record.{Record}
 use Rattle.records.specs.declared.refusal.Refusal.{Refusal}
 use Rattle.records.specs.Rules.{refused}
-use Rattle.policy.specs.Masks.{bit}
 use Rattle.sheet.specs.Sheet.{Sheet}
 use Rattle.machine.specs.Command.{Command}
 use Rattle.machine.specs.SoundSheet.{HasVariable, HasCondition}
@@ -28,16 +27,16 @@ abbrev pub context_of : Masks → Context
 context_of pc = masked pc.variables pc.conditions
 
 -- a context of declared variables and conditions
-pub record Declared (sh : Sheet) (pc : Masks) : Type 0 where
-  pub variables : (v : ℕ) → bit v pc.variables ≡ true → HasVariable sh v
-  pub conditions : (c : ℕ) → bit c pc.conditions ≡ true → HasCondition sh c
+pub record Declared (sh : Sheet) (pc : Context) : Type 0 where
+  pub variables : (v : ℕ) → pc.variables v ≡ true → HasVariable sh v
+  pub conditions : (c : ℕ) → pc.conditions c ≡ true → HasCondition sh c
 
 -- where the rules and the checker stand alike: the masks are the sheet's, the context is declared, and so many blocks are open
 pub record Alike (C : Lattice) (sh : Sheet) (m : FlowMasks) (pc : Masks) (opened : ℕ) (inner : Option Innermost) (blocks : List Block) : Type 0 where
   pub lawful : Lawful C
   pub usable : UsableSheet C sh
   pub masks : MasksOf C sh m
-  pub declared : Declared sh pc
+  pub declared : Declared sh (context_of pc)
   pub depth : length blocks ≡ opened
   pub innermost : innermost_of blocks ≡ inner
 
@@ -76,7 +75,7 @@ opening (on_condition c) n = IfCondition c n
 pub record Branches (m : FlowMasks) (pc : Masks) (opened : ℕ) (inner : Option Innermost) (place : ℕ) (r : Record) (k : RecordKind) (t : Test) (inside : Masks) : Type 0 where
   pub opens : (n : ℕ) → opening t n ≡ kept_as k r n
   pub under : tested t (context_of pc) ≡ context_of inside
-  pub declared : (C : Lattice) (sh : Sheet) (blocks : List Block) → Alike C sh m pc opened inner blocks → Declared sh inside
+  pub declared : (C : Lattice) (sh : Sheet) (blocks : List Block) → Alike C sh m pc opened inner blocks → Declared sh (context_of inside)
   pub goes : (C : Lattice) (sh : Sheet) (blocks : List Block) (commands : Command → Command) → Alike C sh m pc opened inner blocks → (rs : List Record)
       → answer C sh (at place blocks (context_of pc) commands) (r ∷ rs) ≡ answer C sh (at (place + 1) (then_block t (context_of pc) commands ∷ blocks) (tested t (context_of pc)) (λ c. c)) rs
 
