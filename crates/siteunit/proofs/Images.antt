@@ -1,12 +1,9 @@
 -- The rules and the bytes of an image. Assumes nothing.
-use Rattle.std.proofs.Common.{◌≡◌, ℕ, zero, suc, ◌<◌, ◌≤◌, Bool, true, false, ◌&&◌, leb, List, ◌++◌, length, get_or, take, drop, ℤ, Ok, Err, Result, sym, refl, ap, ◌∙◌, add-one, arith}
+use Rattle.std.proofs.Common.{◌≡◌, ℕ, zero, suc, ◌<◌, ◌≤◌, Bool, ◌&&◌, List, length, get_or, take, ℤ, sym, refl, ap, ◌∙◌, add-one, arith}
 use Rattle.std.specs.List.{list_all}
-use Rattle.std.proofs.lemmas.List.{take_at}
 use Rattle.std.proofs.lemmas.List.Folds.{list_all_more}
 use Rattle.std.proofs.Math.Bool.{and_comm}
-use Rattle.std.proofs.lemmas.Bool.{le-leb, lt-leb}
 use Rattle.lattice.specs.Lattice.{Lattice}
-use Rattle.records.specs.declared.refusal.Refusal.{Refusal}
 use Rattle.sheet.specs.Sheet.{Sheet}
 use Rattle.machine.specs.Memory.{every, held}
 use Rattle.machine.specs.Machine.{readable_at}
@@ -14,7 +11,6 @@ use Rattle.machine.proofs.Values.{held_list}
 use Rattle.interpreter.specs.Meaning.{memory_of}
 use Rattle.siteunit.specs.declared.kept.KeptSheet.{KeptSheet}
 use Rattle.siteunit.specs.Standing.{no_access, KeepsSheet}
-use Rattle.siteunit.specs.Obeying.{Fills}
 use Rattle.siteunit.proofs.Steps.{is_readable}
 
 every_all : {X : Type 0} (p : X → Bool) (xs : List X) (d : X) (n : ℕ) → n ≤ length xs → list_all p (take n xs) ≡ every n (λ v. p (get_or xs v d))
@@ -31,23 +27,6 @@ all_readable C sh k K l =
     every_all (λ a. C.below a.present l) k.access no_access k.masks.variables (omega (arith, k.sizes.1, k.masks.counts.1)) ∙ every_same k.masks.variables _ _ (λ v d. is_readable C sh k K v l d)
     ∙ ap (λ n. every n (readable_at C sh l)) K.masks.variables
 
-module _ (image : List ℤ → List ℕ) (xs : List ℤ) (u : ℕ) (long : length xs ≡ 64) where
-  -- the machine's image is the store's
-  pub shown : image (held (memory_of xs u)) ≡ image xs
-  shown = ap image (held_list (memory_of xs u) xs long (λ v. refl))
-
-  pub too_short : (size n : ℕ) → size < n → n ≡ length (image xs) → leb (length (image (held (memory_of xs u)))) size ≡ false
-  too_short size n h e = ap (λ bs. leb (length bs) size) shown ∙ lt-leb _ _ (omega arith)
-
-  pub has_room : (size n : ℕ) → n ≤ size → n ≡ length (image xs) → leb (length (image (held (memory_of xs u)))) size ≡ true
-  has_room size n h e = ap (λ bs. leb (length bs) size) shown ∙ le-leb _ _ (omega arith)
-
-module _ (bytes before after : List ℕ) (n : ℕ) (whole : n ≡ length bytes) (joined : after ≡ bytes ++ drop n before) where
-  pub front : take n after ≡ bytes
-  front = ap (take n) joined ∙ take_at bytes (drop n before) n (sym whole)
-
-  pub fills : n ≤ length before → Fills bytes before after (Ok n)
-  fills room = record { filled = λ k e. let same : n ≡ k = cc in (sym same ∙ whole, omega arith, joined ∙ ap (λ j. bytes ++ drop j before) same); kept = λ e q. let z : ◌≡◌ {A = ℕ} 0 1 = cc in absurd (omega arith) }
-
-pub untouched : (bytes before : List ℕ) (r : Result ℕ Refusal) (e : Refusal) → r ≡ Err e → Fills bytes before before r
-untouched bytes before r e is = record { filled = λ n q. let z : ◌≡◌ {A = ℕ} 0 1 = cc in absurd (omega arith); kept = λ _ _. refl }
+-- the machine's image is the store's
+pub shown : (image : List ℤ → List ℕ) (xs : List ℤ) (u : ℕ) → length xs ≡ 64 → image (held (memory_of xs u)) ≡ image xs
+shown image xs u long = ap image (held_list (memory_of xs u) xs long (λ v. refl))

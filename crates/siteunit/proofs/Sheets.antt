@@ -1,8 +1,8 @@
 -- An accepted sheet, as the box keeps it. Assumes nothing.
-use Rattle.std.proofs.Common.{◌≡◌, ℕ, ◌<◌, true, false, List, get_or, replicate, ℤ, pos, is_some, Some, None, Option, sym, refl, ap, ◌∙◌, inl, inr, arith}
+use Rattle.std.proofs.Common.{◌≡◌, ℕ, ◌<◌, List, get_or, replicate, ℤ, pos, Some, None, sym, ap, ◌∙◌, inl, inr, arith}
 use lib.ListN.{get_or-replicate}
 use Rattle.std.proofs.lemmas.List.{get_or_past}
-use Rattle.std.proofs.lemmas.Bool.{both_ways, cases_lt, ltb-true}
+use Rattle.std.proofs.lemmas.Bool.{cases_lt, ltb-true}
 use mathlib.Core.Option.{none}
 use Rattle.lattice.specs.Lattice.{Lattice}
 use Rattle.policy.specs.Rows.{no_leaf}
@@ -18,10 +18,6 @@ use Rattle.flow.specs.TableFlows.{FlowsOf}
 use Rattle.interpreter.specs.Meaning.{memory_of}
 use Rattle.siteunit.specs.declared.kept.KeptSheet.{KeptSheet}
 use Rattle.siteunit.specs.Standing.{no_access, access_of, KeepsSheet, Ready}
-
-pub none_without : (o : Option KeptSheet) → is_some o ≡ false → o ≡ None
-none_without None e = refl
-none_without (Some k) e = absurd (both_ways true e refl)
 
 zeros : (v : ℕ) → get_or (replicate 64 (pos 0)) v (pos 0) ≡ pos 0
 zeros v = elim (cases_lt v 64) [ inl h ↦ get_or-replicate 64 v (pos 0) (pos 0) h | inr h ↦ get_or_past (replicate 64 (pos 0)) v (pos 0) h ]

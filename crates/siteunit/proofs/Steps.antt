@@ -1,8 +1,8 @@
 -- What a call on a box owes, from one step of the machine. Assumes nothing.
-use Rattle.std.proofs.Common.{◌≡◌, ℕ, ◌<◌, true, false, not, List, [], ◌∷◌, get_or, ℤ, Some, None, Ok, Err, Result, sym, refl, ap, ◌∙◌, subst, arith}
+use Rattle.std.proofs.Common.{◌≡◌, ℕ, ◌<◌, eqb, not, List, [], ◌∷◌, get_or, ℤ, Some, None, Ok, Err, Result, sym, refl, ap, ◌∙◌, subst, arith}
 use mathlib.Core.Option as program
 use lib.Bits.{bit_and}
-use Rattle.std.proofs.lemmas.Bool.{eq-eqb, ne_eqb, lt-ltb}
+use Rattle.std.proofs.lemmas.Bool.{lt-ltb}
 use Rattle.lattice.specs.Lattice.{Lattice}
 use Rattle.records.specs.declared.refusal.Refusal.{Refusal}
 use Rattle.policy.specs.Policy.{wiped_by}
@@ -28,21 +28,18 @@ use Rattle.siteunit.specs.Standing.{no_access, KeepsSheet, KeptAs, LoadedAs, Rea
 use Rattle.siteunit.specs.Obeying.{system_of, answer_of, nothing, ending, StandsFor, WipedIn, Obeys}
 
 never : {X A : Type 0} {x : X} → None ≡ Some x → A
-never {X} {A} {x} e = let z : ◌≡◌ {A = ℕ} 0 1 = cc in absurd (omega arith)
+never e = cc
 
 pub accepts : {T A : Type 0} {x : T} (e : Refusal) → Ok x ≡ Err e → A
-accepts {T} {A} {x} e q = let z : ◌≡◌ {A = ℕ} 0 1 = cc in absurd (omega arith)
+accepts e q = cc
 
 -- the rules, by what is kept
 module _ (C : Lattice) (sh : Sheet) (k : KeptSheet) (K : KeepsSheet C sh k) where
   pub is_readable : (v l : ℕ) → v < k.masks.variables → C.below (get_or k.access v no_access).present l ≡ readable_at C sh l v
   is_readable v l h = ap (λ x. C.below x l) (K.present v (lt-ltb v _ (omega (arith, K.masks.variables))))
 
-  pub is_wiped : (v u : ℕ) → (bit_and (get_or k.masks.variable v no_variable_flow).wipers u ≡ 0 → ⊥) → not (wiped_by (members u) (policy_of sh v)) ≡ false
-  is_wiped v u n = wiped_mask (members u) (policy_of sh v) _ u (K.masks.wipers v) (λ c. refl) ∙ ne_eqb _ _ n
-
-  pub not_wiped : (v u : ℕ) → bit_and (get_or k.masks.variable v no_variable_flow).wipers u ≡ 0 → not (wiped_by (members u) (policy_of sh v)) ≡ true
-  not_wiped v u e = wiped_mask (members u) (policy_of sh v) _ u (K.masks.wipers v) (λ c. refl) ∙ eq-eqb _ _ e
+  pub is_dry : (v u : ℕ) → not (wiped_by (members u) (policy_of sh v)) ≡ eqb (bit_and (get_or k.masks.variable v no_variable_flow).wipers u) 0
+  is_dry v u = wiped_mask (members u) (policy_of sh v) _ u (K.masks.wipers v) (λ c. refl)
 
   pub enforces : Enforces k.masks sh
   enforces = masks.enforces K.masks

@@ -1,5 +1,5 @@
 // The calls on a box.
-ghost use Rattle.std.specs.Prelude.{◌≡◌, ℕ, ◌<◌, ◌≤◌, true, false, length, take, map, replicate, pos, MatchResult, None, slice_index_or};
+ghost use Rattle.std.specs.Prelude.{◌≡◌, ℕ, ◌<◌, ◌≤◌, true, false, length, take, replicate, pos, MatchResult, None, slice_index_or};
 ghost use Rattle.std.specs.List.{list_all};
 ghost use Rattle.records.specs.declared.rule.Rule.TheVariants.{IsLevel};
 ghost use Rattle.sheet.specs.Table.{blank_variable};
@@ -17,7 +17,6 @@ use policy::{condition_bit, has};
 use program::read_program;
 use records::{Refusal, Rule};
 use sheet::{SheetTable, read_sheet};
-use std::array::from_fn;
 use store::Store;
 
 // The level, if the lattice knows it.

@@ -1,6 +1,7 @@
-use Rattle.std.proofs.Common.{◌≡◌, ◌++◌, Some, drop, ap, rules}
+use Rattle.std.proofs.Common.{◌≡◌, Some, drop, sym, rules}
+use Rattle.std.proofs.lemmas.List.{take_at}
 use Rattle.siteunit.specs.Obeying.{front_of}
-use Rattle.siteunit.proofs.Images.{all_readable, too_short, shown, has_room, front}
+use Rattle.siteunit.proofs.Images.{all_readable, shown}
 use Rattle.siteunit.proofs.Steps.{tells}
 use Rattle.siteunit.proofs.site.SiteBox.image.Goals as goal
 
@@ -17,7 +18,7 @@ returns-then-buffer-size-clause-obeys g c =
     let b = c.args.self.now in
     let k = c.in_ok-sheet.sheet.now in
     let is : b.sheet ≡ Some k = search rules in
-    let short = too_short g.S.Store.image (g.S.Store.values b.memory.store) b.memory.up (g.met.S.Store.long b.memory.store) _ _ c.if-buffer-size.true c.image_len-size.ensures in
+    let same = shown g.S.Store.image (g.S.Store.values b.memory.store) b.memory.up (g.met.S.Store.long b.memory.store) in
     tells g.L.Lattice.lattice g.S.Store.values g.S.Store.image b k is (front_of _) _ _
     (λ sh p K. let all = all_readable _ sh k K c.in_ok-level.level in search rules)
 
@@ -26,12 +27,7 @@ returns-clause-obeys g c =
     let b = c.args.self.now in
     let k = c.in_ok-sheet.sheet.now in
     let is : b.sheet ≡ Some k = search rules in
-    let xs = g.S.Store.values b.memory.store in
-    let image = g.S.Store.image in
-    let long = g.met.S.Store.long b.memory.store in
-    let whole = c.image_len-size.ensures in
-    let room = has_room image xs b.memory.up long _ _ c.if-buffer-size.false whole in
-    let same = shown image xs b.memory.up long in
-    let first = front (image xs) c.args.buffer.now _ _ whole (ap (λ bs. bs ++ drop c.image_len-size.result c.args.buffer.now) c.draw.ensures) in
+    let same = shown g.S.Store.image (g.S.Store.values b.memory.store) b.memory.up (g.met.S.Store.long b.memory.store) in
+    let first = take_at (g.S.Store.image (g.S.Store.values b.memory.store)) (drop c.image_len-size.result c.args.buffer.now) _ (sym c.image_len-size.ensures) in
     tells g.L.Lattice.lattice g.S.Store.values g.S.Store.image b k is (front_of _) _ _
     (λ sh p K. let all = all_readable _ sh k K c.in_ok-level.level in search rules)
