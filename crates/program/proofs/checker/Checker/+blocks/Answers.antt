@@ -1,7 +1,7 @@
 use Rattle.std.proofs.Common.{◌≡◌, ◌+◌, ◌-◌, ◌<◌, length, sym, refl, ◌∙◌, arith, rules}
-use Rattle.std.proofs.lemmas.Result.{err_from_is_err_and}
 use Rattle.records.specs.Records.{records}
 use Rattle.records.proofs.Eights.{records_short}
+use Rattle.program.proofs.Exits.{at_err}
 use Rattle.program.proofs.BlockSteps as steps
 use Rattle.program.proofs.checker.Checker.+blocks.Goals as goal
 
@@ -11,8 +11,7 @@ check_block-loop-first-init t c = record { same_end = refl; onward = omega arith
 pub check_block-returns-in_err-kind-clause-answer : goal.check_block-returns-in_err-kind-clause-answer
 check_block-returns-in_err-kind-clause-answer t c =
     let i = c.loop-first.invariant in
-    let p = err_from_is_err_and c.from_residual.result c.from_residual.ensures.1 in
-    rw (p.1, p.2) (steps.refused_after _ _ _ _ i.reads (steps.refused_as _ _ _ _ c.in-Some.ensures.2 (steps.refused_under i.masks _ _ i.context (c.in_err-kind.ensures (records c.in-Some.behind.left.now)))))
+    at_err _ _ _ _ c.from_residual.ensures.1 (steps.refused_after _ _ _ _ i.reads (steps.refused_as _ _ _ _ c.in-Some.ensures.2 (steps.refused_under i.masks _ _ i.context (c.in_err-kind.ensures (records c.in-Some.behind.left.now)))))
 
 pub check_block-returns-in-Mark-clause-forward : goal.check_block-returns-in-Mark-clause-forward
 check_block-returns-in-Mark-clause-forward t c =
@@ -37,8 +36,7 @@ check_block-check_command-requires t c = let i = c.loop-first.invariant in (omeg
 pub check_block-returns-in_err-ahead-in_default-2-clause-answer : goal.check_block-returns-in_err-ahead-in_default-2-clause-answer
 check_block-returns-in_err-ahead-in_default-2-clause-answer t c =
     let i = c.loop-first.invariant in
-    let p = err_from_is_err_and c.from_residual-in_err-ahead-in_default-2.result c.from_residual-in_err-ahead-in_default-2.ensures.1 in
-    rw (p.1, p.2)
+    at_err _ _ _ _ c.from_residual-in_err-ahead-in_default-2.ensures.1
     (steps.refused_after _ _ _ _ i.reads (steps.refused_as _ _ _ _ c.in-Some.ensures.2
     (steps.refused_under i.masks _ _ i.context (c.in_err-ahead-in_default-2.ensures.answer c.args.block.innermost c.in_ok-kind.ensures c.in_default-2.not-Mark))))
 
@@ -100,8 +98,7 @@ check_command-returns-in_default t c =
 
 pub check_loop-returns-in_err-behind-clause-answer : goal.check_loop-returns-in_err-behind-clause-answer
 check_loop-returns-in_err-behind-clause-answer t c inner h e =
-    let p = err_from_is_err_and c.from_residual.result c.from_residual.ensures.1 in
-    rw (p.1, p.2) (steps.loop_refused _ _ _ inner _ c.args.head.first _ _ h e _ (steps.refused_at _ _ _ _ c.args.head.next c.in_err-behind.ensures.answer))
+    at_err _ _ _ _ c.from_residual.ensures.1 (steps.loop_refused _ _ _ inner _ c.args.head.first _ _ h e _ (steps.refused_at _ _ _ _ c.args.head.next c.in_err-behind.ensures.answer))
 
 pub check_loop-returns-clause-answer : goal.check_loop-returns-clause-answer
 check_loop-returns-clause-answer t c inner h e =
