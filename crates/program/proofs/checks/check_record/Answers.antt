@@ -21,10 +21,10 @@ returns-in_err-target-in-Sign c =
 
 pub returns-in_err-check_reach-in-Sign : goal.returns-in_err-check_reach-in-Sign
 returns-in_err-check_reach-in-Sign c =
-    at_err _ _ _ _ c.from_residual-in_err-check_reach-in-Sign.ensures.1 (steps.reach_refused _ _ _ _ _ _ (steps.combining _ _ _ _ _ _ _ (steps.found c.in-Sign.is c.kind_at.ensures c.in_ok-kind.ensures.ok_part)) c.in_ok-target-in-Sign.target c.with_variable-reading.result c.in_ok-target-in-Sign.ensures (c.with_variable-reading.ensures ∙ ap (with_variable c.args.first.b) c.with_variable.ensures) _ c.in_err-check_reach-in-Sign.ensures)
+    at_err _ _ _ _ c.from_residual-in_err-check_reach-in-Sign.ensures.1 (steps.reach_refused _ _ _ _ _ _ (steps.combining _ _ _ _ _ _ _ (steps.found c.in-Sign.is c.kind_at.ensures c.in_ok-kind.ensures.ok_part)) c.in_ok-target-in-Sign.target c.with_variable-reading.result c.in_ok-target-in-Sign.ensures (c.with_variable-reading.ensures ∙ ap (with_variable c.args.line.first.b) c.with_variable.ensures) _ c.in_err-check_reach-in-Sign.ensures)
 
 pub returns-in_ok-check_reach-in-Sign : goal.returns-in_ok-check_reach-in-Sign
-returns-in_ok-check_reach-in-Sign c = steps.passed_as _ _ _ _ _ _ c.in-Sign.is (steps.reach_passed _ _ _ _ _ _ (steps.combining _ _ _ _ _ _ _ (steps.found c.in-Sign.is c.kind_at.ensures c.in_ok-kind.ensures.ok_part)) c.in_ok-target-in-Sign.target c.with_variable-reading.result c.in_ok-target-in-Sign.ensures (c.with_variable-reading.ensures ∙ ap (with_variable c.args.first.b) c.with_variable.ensures) c.in_ok-check_reach-in-Sign.ensures)
+returns-in_ok-check_reach-in-Sign c = steps.passed_as _ _ _ _ _ _ c.in-Sign.is (steps.reach_passed _ _ _ _ _ _ (steps.combining _ _ _ _ _ _ _ (steps.found c.in-Sign.is c.kind_at.ensures c.in_ok-kind.ensures.ok_part)) c.in_ok-target-in-Sign.target c.with_variable-reading.result c.in_ok-target-in-Sign.ensures (c.with_variable-reading.ensures ∙ ap (with_variable c.args.line.first.b) c.with_variable.ensures) c.in_ok-check_reach-in-Sign.ensures)
 
 pub returns-in_err-target-in-Release : goal.returns-in_err-target-in-Release
 returns-in_err-target-in-Release c =
@@ -50,17 +50,17 @@ returns-in_ok-check_reach-in-Raise c = steps.passed_as _ _ _ _ _ _ c.in-Raise.is
 
 pub returns-in_err-check_variable_test-in-VariableTest : goal.returns-in_err-check_variable_test-in-VariableTest
 returns-in_err-check_variable_test-in-VariableTest c =
-    at_err _ _ _ _ c.from_residual-in_err-check_variable_test-in-VariableTest.ensures.1 (steps.fields_refused _ _ _ _ _ _ c.args.first.b _ (steps.testing_variable _ _ _ _ _ _ (steps.found c.in-VariableTest.is c.kind_at.ensures c.in_ok-kind.ensures.ok_part)) c.in_err-check_variable_test-in-VariableTest.ensures)
+    at_err _ _ _ _ c.from_residual-in_err-check_variable_test-in-VariableTest.ensures.1 (steps.fields_refused _ _ _ _ _ _ c.args.line.first.b _ (steps.testing_variable _ _ _ _ _ _ (steps.found c.in-VariableTest.is c.kind_at.ensures c.in_ok-kind.ensures.ok_part)) c.in_err-check_variable_test-in-VariableTest.ensures)
 
 pub returns-in_ok-check_variable_test-in-VariableTest : goal.returns-in_ok-check_variable_test-in-VariableTest
-returns-in_ok-check_variable_test-in-VariableTest c = steps.passed_as _ _ _ _ _ _ c.in-VariableTest.is (steps.fields_passed _ _ _ _ _ _ c.args.first.b _ (steps.testing_variable _ _ _ _ _ _ (steps.found c.in-VariableTest.is c.kind_at.ensures c.in_ok-kind.ensures.ok_part)) c.in_ok-check_variable_test-in-VariableTest.ensures)
+returns-in_ok-check_variable_test-in-VariableTest c = steps.passed_as _ _ _ _ _ _ c.in-VariableTest.is (steps.fields_passed _ _ _ _ _ _ c.args.line.first.b _ (steps.testing_variable _ _ _ _ _ _ (steps.found c.in-VariableTest.is c.kind_at.ensures c.in_ok-kind.ensures.ok_part)) c.in_ok-check_variable_test-in-VariableTest.ensures)
 
 pub returns-in_err-check_condition_test-in-ConditionTest : goal.returns-in_err-check_condition_test-in-ConditionTest
 returns-in_err-check_condition_test-in-ConditionTest c =
-    at_err _ _ _ _ c.from_residual-in_err-check_condition_test-in-ConditionTest.ensures.1 (steps.fields_refused _ _ _ _ _ _ c.args.first.a _ (steps.testing_condition _ _ _ _ _ _ (steps.found c.in-ConditionTest.is c.kind_at.ensures c.in_ok-kind.ensures.ok_part)) c.in_err-check_condition_test-in-ConditionTest.ensures)
+    at_err _ _ _ _ c.from_residual-in_err-check_condition_test-in-ConditionTest.ensures.1 (steps.fields_refused _ _ _ _ _ _ c.args.line.first.a _ (steps.testing_condition _ _ _ _ _ _ (steps.found c.in-ConditionTest.is c.kind_at.ensures c.in_ok-kind.ensures.ok_part)) c.in_err-check_condition_test-in-ConditionTest.ensures)
 
 pub returns-in_ok-check_condition_test-in-ConditionTest : goal.returns-in_ok-check_condition_test-in-ConditionTest
-returns-in_ok-check_condition_test-in-ConditionTest c = steps.passed_as _ _ _ _ _ _ c.in-ConditionTest.is (steps.fields_passed _ _ _ _ _ _ c.args.first.a _ (steps.testing_condition _ _ _ _ _ _ (steps.found c.in-ConditionTest.is c.kind_at.ensures c.in_ok-kind.ensures.ok_part)) c.in_ok-check_condition_test-in-ConditionTest.ensures)
+returns-in_ok-check_condition_test-in-ConditionTest c = steps.passed_as _ _ _ _ _ _ c.in-ConditionTest.is (steps.fields_passed _ _ _ _ _ _ c.args.line.first.a _ (steps.testing_condition _ _ _ _ _ _ (steps.found c.in-ConditionTest.is c.kind_at.ensures c.in_ok-kind.ensures.ok_part)) c.in_ok-check_condition_test-in-ConditionTest.ensures)
 
 pub returns-in_err-check_variable_test-in-Loop : goal.returns-in_err-check_variable_test-in-Loop
 returns-in_err-check_variable_test-in-Loop c =
