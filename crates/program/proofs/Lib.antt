@@ -16,3 +16,4 @@ pub mod RecordSteps
 pub mod Trailing
 pub mod BlockSteps
 pub mod ProgramSteps
+pub mod Exits

@@ -20,7 +20,7 @@ BlockForward (Some i) a b = SameEnd a b × (a.place < b.place)
 
 -- from a command to behind it
 abbrev pub Forward : Placed → Cursor → Type 0
-Forward at b = SameEnd at.behind b × (at.place < b.place)
+Forward at b = SameEnd at.behind b × (at.line.place < b.place)
 
 -- no more than what is kept is changed
 pub record Restored (before after : Checker) : Type 0 where
@@ -30,5 +30,5 @@ pub record Restored (before after : Checker) : Type 0 where
 -- the command is kept, or refused
 abbrev pub CommandRead : Checker → Option Innermost → Placed → List Instruction → Result Cursor Refusal → Type 0
 CommandRead k inner at after r = MatchResult r
-    (λ p. Reads k.masks.now k.context at.opened inner at.place (at.first ∷ records at.behind.left.now) k.instructions after p.place (records p.left.now))
-    (λ e. Refused k.masks.now k.context at.opened inner at.place (at.first ∷ records at.behind.left.now) e)
+    (λ p. Reads k.masks.now k.context at.opened inner at.line.place (at.line.first ∷ records at.behind.left.now) k.instructions after p.place (records p.left.now))
+    (λ e. Refused k.masks.now k.context at.opened inner at.line.place (at.line.first ∷ records at.behind.left.now) e)

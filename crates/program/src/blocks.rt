@@ -13,7 +13,7 @@ use crate::checks::check_record;
 use crate::context::Context;
 use crate::innermost::{Innermost, RecordKind};
 use crate::kept::Instruction;
-use crate::placed::{Block, Placed};
+use crate::placed::{Block, Line, Placed};
 use policy::condition_bit;
 use records::{Cursor, Record, Refusal, Rule};
 
@@ -51,20 +51,16 @@ impl Checker<'_> {
         guard.checker.context = block.inside;
         let mut ahead = cursor;
         while let Some((first, behind)) = ahead.split_first() {
-            let place = ahead.place;
-            match check_record(
-                guard.checker.masks,
+            let line = Line {
                 first,
-                place,
-                block,
-                guard.checker.context,
-            )? {
+                place: ahead.place,
+            };
+            match check_record(guard.checker.masks, line, block, guard.checker.context)? {
                 RecordKind::Mark => return Ok(behind),
                 kind => {
                     let command = Placed {
                         kind,
-                        first,
-                        place,
+                        line,
                         opened: block.opened,
                         behind,
                     };
@@ -83,17 +79,21 @@ impl Checker<'_> {
     fn check_command<'a>(&mut self, command: Placed<'a>) -> Result<Cursor<'a>, Refusal>
         ensures restored { Restored self.old self.new }
         ensures forward { IfOk result (λ p. Forward command.entry p) }
-        ensures answer { (inner : Option AnyInnermost) → Passed self.old.masks.now self.old.context command.entry.opened inner command.entry.place command.entry.first command.entry.kind → command.entry.kind ≢ Mark
+        ensures answer { (inner : Option AnyInnermost) → Passed self.old.masks.now self.old.context command.entry.opened inner command.entry.line.place command.entry.line.first command.entry.kind → command.entry.kind ≢ Mark
             → CommandRead self.old inner command.entry self.new.instructions result }
     {
-        let inside = context_inside(command.kind, command.first, self.context);
+        let inside = context_inside(command.kind, command.line.first, self.context);
         match command.kind {
             RecordKind::VariableTest | RecordKind::ConditionTest => {
                 self.check_branch(command, inside)
             }
             RecordKind::Loop => self.check_loop(command, inside),
             kind => {
-                self.instructions[command.place] = Instruction::of(kind, command.first, 0);
+                self.instructions[command.line.place] = Instruction::of(
+                    kind,
+                    command.line.first,
+                    0,
+                );
                 Ok(command.behind)
             }
         }
@@ -104,7 +104,7 @@ impl Checker<'_> {
     fn check_branch<'a>(&mut self, test: Placed<'a>, inside: Context) -> Result<Cursor<'a>, Refusal>
         ensures restored { Restored self.old self.new }
         ensures forward { IfOk result (λ p. Forward test.entry p) }
-        ensures answer { (inner : Option AnyInnermost) (t : Test) → Branches self.old.masks.now self.old.context test.entry.opened inner test.entry.place test.entry.first test.entry.kind t inside
+        ensures answer { (inner : Option AnyInnermost) (t : Test) → Branches self.old.masks.now self.old.context test.entry.opened inner test.entry.line.place test.entry.line.first test.entry.kind t inside
             → CommandRead self.old inner test.entry self.new.instructions result }
     {
         let then = Block {
@@ -119,8 +119,12 @@ impl Checker<'_> {
             ..then
         };
         let behind = self.check_block(second, otherwise)?;
-        let (place, middle, end) = (test.place, second.place - 1, behind.place - 1);
-        self.instructions[place] = Instruction::of(test.kind, test.first, (middle - place) as u8);
+        let (place, middle, end) = (test.line.place, second.place - 1, behind.place - 1);
+        self.instructions[place] = Instruction::of(
+            test.kind,
+            test.line.first,
+            (middle - place) as u8,
+        );
         self.instructions[middle] = Instruction::Jump {
             way: (end - middle) as u8,
         };
@@ -133,7 +137,7 @@ impl Checker<'_> {
     fn check_loop<'a>(&mut self, head: Placed<'a>, inside: Context) -> Result<Cursor<'a>, Refusal>
         ensures restored { Restored self.old self.new }
         ensures forward { IfOk result (λ p. Forward head.entry p) }
-        ensures answer { (inner : Option AnyInnermost) → Passed self.old.masks.now self.old.context head.entry.opened inner head.entry.place head.entry.first While → inside ≡ with_variable head.entry.first.b self.old.context
+        ensures answer { (inner : Option AnyInnermost) → Passed self.old.masks.now self.old.context head.entry.opened inner head.entry.line.place head.entry.line.first While → inside ≡ with_variable head.entry.line.first.b self.old.context
             → CommandRead self.old inner head.entry self.new.instructions result }
     {
         let block = Block {
@@ -142,9 +146,9 @@ impl Checker<'_> {
             inside,
         };
         let behind = self.check_block(head.behind, block)?;
-        let (place, end) = (head.place, behind.place - 1);
+        let (place, end) = (head.line.place, behind.place - 1);
         let way = (end - place) as u8;
-        let variable = head.first.b;
+        let variable = head.line.first.b;
         self.instructions[place] = Instruction::Loop { variable, way };
         self.instructions[end] = Instruction::Again { variable, way };
         Ok(behind)

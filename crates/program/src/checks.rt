@@ -15,26 +15,26 @@ use crate::fields::{
 };
 use crate::innermost::RecordKind;
 use crate::letters::kind_at;
-use crate::placed::Block;
+use crate::placed::{Block, Line};
 use crate::reach::check_reach;
 use flow::{FlowMasks, Inflow, PermitFlow};
 use policy::has;
-use records::{Record, Refusal, Rule};
+use records::{Refusal, Rule};
 
 // What a release reaches: its target under the permit's conditions too, and by the permit; and its source.
 fn check_release(
-    first: Record,
-    place: usize,
+    line: Line,
     context: Context,
     permit: PermitFlow,
     inflow: Inflow,
 ) -> Result<(), Refusal>
     ensures { MatchResult result
-        (λ _. (a : Reading Command) → first_failing (each_within 16 place (context_of (with_conditions permit.conditions context)) (masked inflow.variables inflow.conditions))
-        (first_failing (asked 16 place (512 + first.c) (bit first.a permit.targets) ∷ asked 18 place 0 (bit first.b permit.sources) ∷ []) a) ≡ a)
-        (λ e. (a : Reading Command) → first_failing (each_within 16 place (context_of (with_conditions permit.conditions context)) (masked inflow.variables inflow.conditions))
-        (first_failing (asked 16 place (512 + first.c) (bit first.a permit.targets) ∷ asked 18 place 0 (bit first.b permit.sources) ∷ []) a) ≡ refused e) }
+        (λ _. (a : Reading Command) → first_failing (each_within 16 line.place (context_of (with_conditions permit.conditions context)) (masked inflow.variables inflow.conditions))
+        (first_failing (asked 16 line.place (512 + line.first.c) (bit line.first.a permit.targets) ∷ asked 18 line.place 0 (bit line.first.b permit.sources) ∷ []) a) ≡ a)
+        (λ e. (a : Reading Command) → first_failing (each_within 16 line.place (context_of (with_conditions permit.conditions context)) (masked inflow.variables inflow.conditions))
+        (first_failing (asked 16 line.place (512 + line.first.c) (bit line.first.a permit.targets) ∷ asked 18 line.place 0 (bit line.first.b permit.sources) ∷ []) a) ≡ refused e) }
 {
+    let Line { first, place } = line;
     check_reach(
         Rule::Reaching,
         place,
@@ -53,51 +53,51 @@ fn check_release(
 // Every rule that is asked of the record at this place, with so many blocks open: what it is, or the first that fails.
 pub(crate) fn check_record(
     masks: &FlowMasks,
-    first: Record,
-    place: usize,
+    line: Line,
     block: Block,
     context: Context,
 ) -> Result<RecordKind, Refusal>
     ensures { MatchResult result
-        (λ k. Passed masks.now context block.opened block.innermost place first k)
-        (λ e. (rs : List AnyRecord) → Refused masks.now context block.opened block.innermost place (first ∷ rs) e) }
+        (λ k. Passed masks.now context block.opened block.innermost line.place line.first k)
+        (λ e. (rs : List AnyRecord) → Refused masks.now context block.opened block.innermost line.place (line.first ∷ rs) e) }
 {
+    let Line { first, place } = line;
     let kind = kind_at(first.letter, block.innermost).ok_or(Rule::ProgramLetter.at(place, 0))?;
     match kind {
         RecordKind::Set => {
-            let target = check_set(first, place, masks.variables)?;
+            let target = check_set(line, masks.variables)?;
             let inflow = masks.variable[target as usize].inflow;
             check_reach(Rule::Reaching, place, context, inflow)?;
         }
         RecordKind::Sign(_) => {
-            let target = check_three(first, place, masks.variables, masks.variables)?;
+            let target = check_three(line, masks.variables, masks.variables)?;
             let reading = context.with_variable(first.c).with_variable(first.b);
             let inflow = masks.variable[target as usize].inflow;
             check_reach(Rule::Reaching, place, reading, inflow)?;
         }
         RecordKind::Release => {
-            let target = check_three(first, place, masks.variables, masks.permits)?;
+            let target = check_three(line, masks.variables, masks.permits)?;
             let permit = masks.permit[first.c as usize];
             let inflow = masks.variable[target as usize].inflow;
-            check_release(first, place, context, permit, inflow)?;
+            check_release(line, context, permit, inflow)?;
         }
         RecordKind::Raise => {
-            let condition = check_raise(first, place, masks.conditions)?;
+            let condition = check_raise(line, masks.conditions)?;
             let inflow = masks.condition[condition as usize];
             check_reach(Rule::Reaching, place, context, inflow)?;
         }
         RecordKind::VariableTest => {
-            check_variable_test(first, place, masks.variables, block.opened)?;
+            check_variable_test(line, masks.variables, block.opened)?;
         }
         RecordKind::ConditionTest => {
-            check_condition_test(first, place, masks.conditions, block.opened)?;
+            check_condition_test(line, masks.conditions, block.opened)?;
         }
         RecordKind::Loop => {
-            check_variable_test(first, place, masks.variables, block.opened)?;
+            check_variable_test(line, masks.variables, block.opened)?;
             let inside = context.with_variable(first.b);
             check_reach(Rule::LoopLowest, place, inside, masks.lowest)?;
         }
-        RecordKind::Mark => check_mark(first, place)?,
+        RecordKind::Mark => check_mark(line)?,
     }
     Ok(kind)
 }

@@ -18,7 +18,7 @@ impl Context {
     {
         Context {
             variables: self.variables | mask_of(variable),
-            conditions: self.conditions,
+            ..self
         }
     }
 
@@ -27,8 +27,8 @@ impl Context {
         ensures { result ≡ with_conditions conditions self }
     {
         Context {
-            variables: self.variables,
             conditions: self.conditions | conditions,
+            ..self
         }
     }
 }

@@ -3,7 +3,8 @@ ghost use Rattle.std.specs.Prelude.{◌≡◌, ◌+◌, [], ◌∷◌, nat_le, n
 ghost use Rattle.records.specs.Rules.{judged, rule as asked};
 ghost use Rattle.program.specs.Checks.{set_fields, three_fields, raise_fields, variable_test_fields, condition_test_fields, mark_fields};
 
-use records::{Record, Refusal, Rule};
+use crate::placed::Line;
+use records::{Refusal, Rule};
 
 // What is named, if so many are declared.
 fn declared(name: u8, count: usize, place: usize) -> Result<u8, Refusal>
@@ -36,21 +37,18 @@ fn one_more(opened: usize, place: usize) -> Result<(), Refusal>
 }
 
 // S: its target.
-pub(crate) fn check_set(first: Record, place: usize, variables: usize) -> Result<u8, Refusal>
-    ensures { result ≡ judged (set_fields first place variables) first.a }
+pub(crate) fn check_set(line: Line, variables: usize) -> Result<u8, Refusal>
+    ensures { result ≡ judged (set_fields line.first line.place variables) line.first.a }
 {
+    let Line { first, place } = line;
     only(first.b == 0 && first.c == 0, first.a, variables, place)
 }
 
 // A sign or D: its target. The third thing named is a variable or a permit.
-pub(crate) fn check_three(
-    first: Record,
-    place: usize,
-    variables: usize,
-    thirds: usize,
-) -> Result<u8, Refusal>
-    ensures { result ≡ judged (three_fields first place variables thirds) first.a }
+pub(crate) fn check_three(line: Line, variables: usize, thirds: usize) -> Result<u8, Refusal>
+    ensures { result ≡ judged (three_fields line.first line.place variables thirds) line.first.a }
 {
+    let Line { first, place } = line;
     let target = only(first.n == 0, first.a, variables, place)?;
     declared(first.b, variables, place)?;
     declared(first.c, thirds, place)?;
@@ -58,9 +56,10 @@ pub(crate) fn check_three(
 }
 
 // U: its condition.
-pub(crate) fn check_raise(first: Record, place: usize, conditions: usize) -> Result<u8, Refusal>
-    ensures { result ≡ judged (raise_fields first place conditions) first.a }
+pub(crate) fn check_raise(line: Line, conditions: usize) -> Result<u8, Refusal>
+    ensures { result ≡ judged (raise_fields line.first line.place conditions) line.first.a }
 {
+    let Line { first, place } = line;
     only(
         first.b == 0 && first.c == 0 && first.n == 0,
         first.a,
@@ -71,13 +70,13 @@ pub(crate) fn check_raise(first: Record, place: usize, conditions: usize) -> Res
 
 // I or W, with so many blocks open: the variable tested.
 pub(crate) fn check_variable_test(
-    first: Record,
-    place: usize,
+    line: Line,
     variables: usize,
     opened: usize,
 ) -> Result<u8, Refusal>
-    ensures { result ≡ judged (variable_test_fields first place variables opened) first.b }
+    ensures { result ≡ judged (variable_test_fields line.first line.place variables opened) line.first.b }
 {
+    let Line { first, place } = line;
     let variable = only(
         first.a == 0 && first.c == 0 && first.n == 0,
         first.b,
@@ -90,22 +89,22 @@ pub(crate) fn check_variable_test(
 
 // Q, with so many blocks open: the condition tested, which stands where a U has its condition.
 pub(crate) fn check_condition_test(
-    first: Record,
-    place: usize,
+    line: Line,
     conditions: usize,
     opened: usize,
 ) -> Result<u8, Refusal>
-    ensures { result ≡ judged (condition_test_fields first place conditions opened) first.a }
+    ensures { result ≡ judged (condition_test_fields line.first line.place conditions opened) line.first.a }
 {
-    let condition = check_raise(first, place, conditions)?;
-    one_more(opened, place)?;
+    let condition = check_raise(line, conditions)?;
+    one_more(opened, line.place)?;
     Ok(condition)
 }
 
 // J or K, which names nothing.
-pub(crate) fn check_mark(first: Record, place: usize) -> Result<(), Refusal>
-    ensures { result ≡ judged (mark_fields first place) tt }
+pub(crate) fn check_mark(line: Line) -> Result<(), Refusal>
+    ensures { result ≡ judged (mark_fields line.first line.place) tt }
 {
+    let Line { first, place } = line;
     if first.a != 0 || first.b != 0 || first.c != 0 || first.n != 0 {
         return Err(Rule::ProgramFields.at(place, 0));
     }

@@ -10,7 +10,7 @@ pub(crate) enum Innermost {
 }
 
 // What a record is. A mark ends the innermost block.
-#[derive(Clone, Copy, PartialEq)]
+#[derive(Clone, Copy)]
 pub(crate) enum RecordKind {
     Set,
     Sign(Sign),

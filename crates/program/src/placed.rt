@@ -13,15 +13,21 @@ pub(crate) struct Block {
     pub(crate) inside: Context,
 }
 
-// A command's record: what it is, its place, how many blocks are open there, and the cursor behind it.
+// A record and its place.
+#[derive(Clone, Copy)]
+pub(crate) struct Line {
+    pub(crate) first: Record,
+    pub(crate) place: usize,
+}
+
+// A command's record: what it is, where it stands, how many blocks are open there, and the cursor behind it.
 #[derive(Clone, Copy)]
 pub(crate) struct Placed<'a> {
     pub(crate) kind: RecordKind,
-    pub(crate) first: Record,
-    pub(crate) place: usize,
+    pub(crate) line: Line,
     pub(crate) opened: usize,
     pub(crate) behind: Cursor<'a>,
-    ghost next: { behind.place ≡ place + 1 },
+    ghost next: { behind.place ≡ line.place + 1 },
     ghost room: { 8 * behind.place + length behind.left.now ≤ 2048 },
-    ghost nested: { opened ≤ place },
+    ghost nested: { opened ≤ line.place },
 }

@@ -1,6 +1,6 @@
 use Rattle.std.proofs.Common.{◌≡◌, ◌%◌, ◌≤◌, false, length, refl, rules}
-use Rattle.std.proofs.lemmas.Result.{err_from_is_err_and}
 use Rattle.program.specs.Rules.{whole_records}
+use Rattle.program.proofs.Exits.{at_err}
 use Rattle.program.proofs.ProgramSteps.{wrong_length, program_refused, program_read}
 use Rattle.program.proofs.read.read_program.Goals as goal
 
@@ -13,8 +13,7 @@ pub returns-in_err-end : goal.returns-in_err-end
 returns-in_err-end c =
     let m : length c.args.bytes.now % 8 ≡ 0 = search rules in
     let l : length c.args.bytes.now ≤ 2048 = search rules in
-    let p = err_from_is_err_and c.from_residual.result c.from_residual.ensures.1 in
-    rw (p.1, p.2) (program_refused _ _ m l _ c.default-inside.ensures c.new.result c.new.ensures.place c.new.ensures.left _ c.in_err-end.ensures.answer)
+    at_err _ _ _ _ c.from_residual.ensures.1 (program_refused _ _ m l _ c.default-inside.ensures c.new.result c.new.ensures.place c.new.ensures.left _ c.in_err-end.ensures.answer)
 
 pub returns : goal.returns
 returns c =
