@@ -16,14 +16,16 @@ pub fn play(setting: Setting, calls: &[Call], answers: &mut [Answer]) -> usize
     ensures answers { map told (take result answers.new) ≡ answers_to (system_for setting) (map (heard 320) (take result calls.now)) }
     ensures rest { drop result answers.new ≡ drop result answers.old }
 {
-    match setting.order {
-        Order::Chain(top) => match setting.kind {
-            Kind::Dense => run::<Chain, DenseStore>(Chain { top }, calls, answers),
-            Kind::Sparse => run::<Chain, SparseStore>(Chain { top }, calls, answers),
-        },
-        Order::Readers => match setting.kind {
-            Kind::Dense => run::<ReaderSets, DenseStore>(ReaderSets, calls, answers),
-            Kind::Sparse => run::<ReaderSets, SparseStore>(ReaderSets, calls, answers),
-        },
+    match (setting.order, setting.kind) {
+        (Order::Chain(top), Kind::Dense) => run::<Chain, DenseStore>(Chain { top }, calls, answers),
+        (Order::Chain(top), Kind::Sparse) => run::<Chain, SparseStore>(
+            Chain { top },
+            calls,
+            answers,
+        ),
+        (Order::Readers, Kind::Dense) => run::<ReaderSets, DenseStore>(ReaderSets, calls, answers),
+        (Order::Readers, Kind::Sparse) => run::<ReaderSets, SparseStore>(
+            ReaderSets, calls, answers,
+        ),
     }
 }

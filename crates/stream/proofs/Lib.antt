@@ -1,3 +1,4 @@
 pub mod Decoding
 pub mod Writing
 pub mod Digits
+pub mod Refusing

@@ -5,7 +5,9 @@ mod answers;
 mod calls;
 mod decode;
 mod lines;
+mod segment;
 
 pub use answers::{Answer, ImageBytes, Line};
-pub use calls::{Call, Next};
+pub use calls::Call;
 pub use decode::next_call;
+pub use segment::{Malformed, Segment};
