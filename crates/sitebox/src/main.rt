@@ -7,7 +7,7 @@ use session::run;
 use std::io;
 use std::io::Read;
 use store::{DenseStore, Store};
-use stream::{Answer, Call, Line};
+use stream::{Answer, Call, print_lines};
 
 // The most bytes of input that are read.
 const INPUT_BYTES: u64 = 65536;
@@ -18,15 +18,5 @@ fn main(rt: HostRuntime) -> io::Result<()> {
     let stream = decode::<Call>(rt.alloc(), &input)?;
     let mut answers = vec![in rt.alloc(); Answer::Number(0); stream.items.len()]?;
     run::<Chain, DenseStore>(Chain { top: 3 }, &stream.items, &mut answers);
-    for (count, answer) in answers.iter().enumerate() {
-        rt.println(Line {
-            count,
-            answer: *answer,
-        })?;
-    }
-    if stream.ended() {
-        Ok(())
-    } else {
-        rt.println("stop")
-    }
+    print_lines(&rt, &answers, stream.ended())
 }

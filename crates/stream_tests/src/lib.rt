@@ -7,7 +7,7 @@ mod tests {
     use records::Refusal;
     use std::alloc::{AllocError, Global};
     use std::test::Fail;
-    use stream::{Answer, Call, ImageBytes, Line, next_call};
+    use stream::{Answer, Call, IMAGE_ROOM, ImageBytes, Line, next_call};
 
     // How many calls stand in front of the end, or of what is no call, and whether it is the end.
     fn count(heap: Global, stream: &[u8]) -> Result<(usize, bool), AllocError> {
@@ -132,7 +132,7 @@ mod tests {
 
     #[test]
     fn images_are_lines(rt: HostRuntime) -> Result<(), Fail> {
-        let mut buffer = [0; 320];
+        let mut buffer = [0; IMAGE_ROOM];
         buffer[1] = 10;
         buffer[2] = 255;
         buffer[3] = 1;

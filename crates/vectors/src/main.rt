@@ -5,21 +5,10 @@ use bundle::{note, play, split, times};
 use decoder::decode;
 use std::io;
 use std::io::Read;
-use stream::{Answer, Call, Line};
-
-// Prints the lines of a stream.
-fn print_lines(rt: &impl Print, answers: &[Answer], ended: bool) -> io::Result<()> {
-    for (count, answer) in answers.iter().enumerate() {
-        rt.println(Line {
-            count,
-            answer: *answer,
-        })?;
-    }
-    if ended { Ok(()) } else { rt.println("stop") }
-}
+use stream::{Answer, Call, print_lines};
 
 // Prints how many streams and calls there were, and how often each rule refused.
-fn print_summary(rt: &impl Print, streams: usize, outcomes: &[u8]) -> io::Result<()> {
+fn print_summary(rt: &impl Print, streams: usize, outcomes: &[Option<u8>]) -> io::Result<()> {
     let calls = outcomes.len();
     println!(rt; "streams {streams}")?;
     println!(rt; "calls {calls}")?;
