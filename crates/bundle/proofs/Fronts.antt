@@ -1,19 +1,12 @@
 -- Which stream stands at the front of a bundle, and one stream more of it. Assumes nothing.
-use Rattle.std.proofs.Common.{◌≡◌, ℕ, ◌<◌, ◌≤◌, Bool, eqb, List, [], ◌∷◌, ◌++◌, length, None, sym, refl, ap, ◌∙◌, subst, arith, Bor}
+use Rattle.std.proofs.Common.{◌≡◌, ℕ, ◌<◌, ◌≤◌, ◌≢◌, List, [], ◌∷◌, ◌++◌, length, sym, ap, ◌∙◌, subst, arith}
 use Rattle.std.proofs.lemmas.List.{length-append, append_assoc}
-use Rattle.std.proofs.lemmas.Bool.{eqb-true, eqb-false}
 use Rattle.records.specs.declared.Record.{Record}
 use Rattle.records.specs.Records.{Fit, bytes}
 use Rattle.records.proofs.Formats.{length_bytes, record_front}
 use Rattle.bundle.specs.declared.streams.Setting.{Setting}
 use Rattle.bundle.specs.declared.streams.Stream.{Stream}
-use Rattle.bundle.specs.declared.streams.Next.{Next}
-use Rattle.bundle.specs.declared.streams.Next.TheVariants as next
-use Rattle.bundle.specs.Bundles.{head_of, stream_bytes, HeadRead, StreamRead, NoStream, Reads, Follow, Bundled}
-
-pub nothing : {X : Type 0} (xs : List X) → length xs ≡ 0 → xs ≡ []
-nothing [] e = refl
-nothing (x ∷ xs) e = absurd (omega arith)
+use Rattle.bundle.specs.Bundles.{head_of, stream_bytes, StreamRead, NoStream}
 
 pub too_short : (input : List ℕ) → (input ≡ [] → ⊥) → length input < 8 → NoStream input
 too_short input s l = record {
@@ -31,7 +24,7 @@ module _ (input rest : List ℕ) (head : Record) (f : Fit head) (stands : input 
       let p = record_front (head_of s (length calls)) head (calls ++ after) rest g f (sym (append_assoc (bytes (head_of s (length calls) ∷ [])) calls after) ∙ sym e ∙ stands) in
       (p.0, sym p.1)
 
-  pub no_setting : HeadRead head None → NoStream input
+  pub no_setting : ((s : Setting) → head_of s head.n ≢ head) → NoStream input
   no_setting h = record {
     some = something;
     none = λ s calls after k e. let p = front s calls after k e in h s (subst (λ n. head_of s n ≡ head) (ap (λ r. r.n) p.0) p.0);
@@ -56,26 +49,3 @@ module _ (input rest : List ℕ) (head : Record) (f : Fit head) (stands : input 
         stands = stands ∙ ap (λ x. bytes (x ∷ []) ++ rest) (sym (ap (head_of s) l ∙ h)) ∙ ap (λ b. bytes (head_of s (length calls) ∷ []) ++ b) r ∙ sym (append_assoc (bytes (head_of s (length calls) ∷ [])) calls after);
         short = subst (λ n. n ≤ 65536) (sym l) k;
       }
-
--- a stream takes eight bytes at least
-pub shorter : (left rest : List ℕ) (stream : Stream) → StreamRead left stream rest → length rest < length left
-shorter left rest stream r =
-    let calls = stream.calls.now in
-    let h = head_of stream.setting (length calls) in
-    omega (arith, ap length r.stands, length-append (stream_bytes stream.setting calls) rest, length-append (bytes (h ∷ [])) calls, length_bytes (h ∷ []))
-
-pub bundled : (bundle : List ℕ) (streams : List Stream) (left : List ℕ) (ended : Bool) (r : Next) → Follow bundle streams left → Reads left r
-    → ((stream : Stream) (rest : Bor (List ℕ)) → r ≡ next.Stream stream rest → ⊥) → ended ≡ eqb (length left) 0 → Bundled bundle streams ended
-bundled bundle streams left ended (next.Stream stream rest) f h n e = absurd (n stream rest refl)
-bundled bundle streams left ended next.End f h n e = record {
-  left = left;
-  follow = f;
-  end = λ t. h;
-  stop = λ t. let z : length left ≡ 0 = ap length h in absurd (eqb-false (length left) 0 (sym e ∙ t) z);
-}
-bundled bundle streams left ended next.Broken f h n e = record {
-  left = left;
-  follow = f;
-  end = λ t. nothing left (eqb-true (length left) 0 (sym e ∙ t));
-  stop = λ t. h;
-}

@@ -1,3 +1,4 @@
 pub mod Bundles
 pub mod Outcomes
 pub mod Settings
+pub mod StreamLengths

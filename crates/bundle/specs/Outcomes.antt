@@ -1,16 +1,19 @@
 -- Which rules refused calls.
-use Rattle.std.specs.Prelude.{ℕ, suc, cond, List, [], ◌∷◌, ◌==◌}
+use Rattle.std.specs.Prelude.{ℕ, Bool, false, List, Some, None, Option, count_by, ◌==◌}
 use Rattle.stream.specs.declared.answers.Answer.{Answer}
 use Rattle.stream.specs.declared.answers.Answer.TheVariants.{Number, Image, Done, Spent, Refused}
 
--- the rule that refused, or 0
-abbrev pub outcome : Answer → ℕ
-outcome (Number n) = 0
-outcome (Image image) = 0
-outcome (Done turns) = 0
-outcome (Spent turns) = 0
-outcome (Refused e) = e.number
+-- the rule that refused, if one did
+abbrev pub outcome : Answer → Option ℕ
+outcome (Number n) = None
+outcome (Image image) = None
+outcome (Done turns) = None
+outcome (Spent turns) = None
+outcome (Refused e) = Some e.number
 
-abbrev pub occurrences : ℕ → List ℕ → ℕ
-occurrences rule [] = 0
-occurrences rule (o ∷ os) = cond (o == rule) (suc (occurrences rule os)) (occurrences rule os)
+abbrev pub is_by : ℕ → Option ℕ → Bool
+is_by rule (Some number) = number == rule
+is_by rule None = false
+
+abbrev pub occurrences : ℕ → List (Option ℕ) → ℕ
+occurrences rule os = count_by (is_by rule) os

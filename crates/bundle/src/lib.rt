@@ -10,4 +10,4 @@ mod streams;
 pub use outcomes::{note, times};
 pub use playing::play;
 pub use reading::{next_stream, split};
-pub use streams::{Kind, Next, Order, Setting, Stream};
+pub use streams::{Kind, Order, Setting, Stream};

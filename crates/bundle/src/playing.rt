@@ -8,22 +8,18 @@ use crate::streams::{Kind, Order, Setting};
 use lattice::{Chain, ReaderSets};
 use session::run;
 use store::{DenseStore, SparseStore, Store};
-use stream::{Answer, Call};
+use stream::{Answer, Call, IMAGE_ROOM};
 
 /// Makes calls on a new box in this setting, as many as there is room for answers; answers how many.
 pub fn play(setting: Setting, calls: &[Call], answers: &mut [Answer]) -> usize
     ensures count { result ≡ min (length calls.now) (length answers.old) }
-    ensures answers { map told (take result answers.new) ≡ answers_to (system_for setting) (map (heard 320) (take result calls.now)) }
+    ensures answers { map told (take result answers.new) ≡ answers_to (system_for setting) (map (heard IMAGE_ROOM) (take result calls.now)) }
     ensures rest { drop result answers.new ≡ drop result answers.old }
 {
-    match setting.order {
-        Order::Chain(top) => match setting.kind {
-            Kind::Dense => run::<Chain, DenseStore>(Chain { top }, calls, answers),
-            Kind::Sparse => run::<Chain, SparseStore>(Chain { top }, calls, answers),
-        },
-        Order::Readers => match setting.kind {
-            Kind::Dense => run::<ReaderSets, DenseStore>(ReaderSets, calls, answers),
-            Kind::Sparse => run::<ReaderSets, SparseStore>(ReaderSets, calls, answers),
-        },
+    match (setting.order, setting.kind) {
+        (Order::Chain(top), Kind::Dense) => run::<_, DenseStore>(Chain { top }, calls, answers),
+        (Order::Chain(top), Kind::Sparse) => run::<_, SparseStore>(Chain { top }, calls, answers),
+        (Order::Readers, Kind::Dense) => run::<_, DenseStore>(ReaderSets, calls, answers),
+        (Order::Readers, Kind::Sparse) => run::<_, SparseStore>(ReaderSets, calls, answers),
     }
 }

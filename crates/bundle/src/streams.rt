@@ -27,11 +27,3 @@ pub struct Stream<'a> {
     pub setting: Setting,
     pub calls: &'a [u8],
 }
-
-/// What stands next in a bundle: a stream and the bytes after it, the end, or what is no stream.
-#[derive(Clone, Copy)]
-pub enum Next<'a> {
-    Stream(Stream<'a>, &'a [u8]),
-    End,
-    Broken,
-}

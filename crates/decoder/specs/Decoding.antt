@@ -1,16 +1,13 @@
--- The calls of a whole stream.
-use Rattle.std.specs.Prelude.{◌≡◌, ℕ, Bool, true, false, List, [], ◌∷◌, ◌++◌}
-use Rattle.stream.specs.declared.calls.Call.{Call}
-use Rattle.stream.specs.Calls.{CallRead, NoCall}
+-- The segments of a whole row of bytes.
+use Rattle.std.specs.Prelude.{ℕ, List, [], ◌∷◌, ◌++◌, ◌≢◌}
 
--- the calls stand one after another in front of what is left
-pub data Follow (stream : List ℕ) : List Call → List ℕ → Type 0 where
-  none : Follow stream [] stream
-  one_more : (calls : List Call) (call : Call) (left rest : List ℕ) → Follow stream calls left → CallRead left call rest → Follow stream (calls ++ call ∷ []) rest
+-- the segments stand one after another in front of what is left
+pub data Follow {T : Type 0} (stands : List ℕ → T → List ℕ → Type 0) (bytes : List ℕ) : List T → List ℕ → Type 0 where
+  none : Follow stands bytes [] bytes
+  one_more : (segments : List T) (segment : T) (left rest : List ℕ) → Follow stands bytes segments left → stands left segment rest
+      → Follow stands bytes (segments ++ segment ∷ []) rest
 
--- all calls of a stream, up to its end or to what is no call
-pub record Decoded (stream : List ℕ) (calls : List Call) (ended : Bool) : Type 0 where
-  pub left : List ℕ
-  pub follow : Follow stream calls left
-  pub end : ended ≡ true → left ≡ []
-  pub stop : ended ≡ false → NoCall left
+-- all segments, up to the end or to what is no segment
+pub record Decoded {T : Type 0} (stands : List ℕ → T → List ℕ → Type 0) (stops : List ℕ → Type 0) (bytes : List ℕ) (segments : List T) (left : List ℕ) : Type 0 where
+  pub follow : Follow stands bytes segments left
+  pub stop : left ≢ [] → stops left

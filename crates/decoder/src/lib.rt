@@ -1,21 +1,40 @@
-// All calls of a stream.
+// All segments of a row of bytes: the calls of a stream, the streams of a bundle.
 #![tactic(auto)]
 
-ghost use Rattle.std.specs.Prelude.{IfOk};
+ghost use Rattle.std.specs.Prelude.{◌≡◌, [], IsTrue, ◌↔◌, IfOk};
 ghost use Rattle.decoder.specs.Decoding.{Decoded};
 
 use std::alloc::{AllocError, Global};
-use stream::{Call, Next, next_call};
+use stream::Segment;
 
-/// The calls of a stream, up to its end or to what is no call, and whether it was the end.
-pub fn decode(heap: Global, stream: &[u8]) -> Result<(Vec<Call<'_>>, bool), AllocError>
-    ensures { IfOk result (λ p. Decoded stream.now p.0.items p.1) }
+/// Segments that stand one after another, and the bytes behind the last.
+#[derive(Drop)]
+pub struct Segments<'a, T> {
+    pub items: Vec<T>,
+    pub left: &'a [u8],
+}
+
+impl<'a, T> Segments<'a, T> {
+    /// Whether nothing is left behind the segments.
+    pub fn ended(&self) -> bool
+        ensures { IsTrue result ↔ (self.now.left.now ≡ []) }
+    {
+        self.left.is_empty()
+    }
+}
+
+/// The segments of a row of bytes, up to its end or to what is no segment.
+pub fn decode<'a, T: Segment<'a>>(
+    heap: Global,
+    bytes: &'a [u8],
+) -> Result<Segments<'a, T>, AllocError>
+    ensures { IfOk result (λ s. Decoded T.stands T.stops bytes.now s.items.items s.left.now) }
 {
-    let mut calls = Vec::new(heap);
-    let mut left = stream;
-    while let Next::Call(call, rest) = next_call(left) {
-        calls.push(call)?;
+    let mut items = Vec::new(heap);
+    let mut left = bytes;
+    while let Ok(Some((segment, rest))) = T::next(left) {
+        items.push(segment)?;
         left = rest;
     }
-    Ok((calls, left.is_empty()))
+    Ok(Segments { items, left })
 }

@@ -1,11 +1,15 @@
 -- A refusal names the broken rule, the record at which it is asked, and a detail.
-use Rattle.std.specs.Prelude.{ℕ}
+use Rattle.std.specs.Prelude.{ℕ, List, ◌++◌, codes, decimal}
 use Rattle.records.specs.declared.refusal.Refusal.{Refusal}
 use Rattle.records.specs.declared.rule.Rule.{Rule}
 use Rattle.records.specs.declared.rule.Rule.TheVariants.{NoSheetYet, SheetLength, SheetLetter, SheetFields, NextNumber, KnownLevel, DeclaredCondition, TreeDepth, WipersBelow, NeedsSheet, ProgramLength, ProgramLetter, ProgramFields, Declared, Nesting, Reaching, LoopLowest, Released, MayBeFed, NotWiped, IsCondition, NeedsProgram, IsLevel, IsVariable, MayKnow, RoomForImage}
 
 abbrev pub refusal : ℕ → ℕ → ℕ → Refusal
 refusal number place detail = record { number = number; place = place; detail = detail }
+
+-- number, place and detail, by a blank each
+abbrev pub refusal_text : Refusal → List ℕ
+refusal_text e = decimal e.number ++ (codes " " ++ (decimal e.place ++ (codes " " ++ decimal e.detail)))
 
 -- the number by which an answer names a rule
 abbrev pub number : Rule → ℕ

@@ -1,6 +1,8 @@
 // What a refused call answers.
-ghost use Rattle.std.specs.Prelude.{◌≡◌};
-ghost use Rattle.records.specs.Refusals.{refusal};
+ghost use Rattle.std.specs.Prelude.{◌≡◌, Some};
+ghost use Rattle.records.specs.Refusals.{refusal, refusal_text};
+
+use std::fmt;
 
 /// Which rule is broken, at which record, and by what; place and detail are 0 where the rule names none.
 #[derive(Clone, Copy, Debug, PartialEq)]
@@ -19,5 +21,16 @@ impl Refusal {
             place,
             detail,
         }
+    }
+}
+
+impl fmt::Display for Refusal {
+    ghost output = { λ e. Some (refusal_text e) };
+
+    fn fmt<W: fmt::Write>(&self, f: &mut fmt::Formatter<W>) -> fmt::Result {
+        let number = self.number;
+        let place = self.place;
+        let detail = self.detail;
+        write!(f, "{number} {place} {detail}")
     }
 }

@@ -1,5 +1,5 @@
 -- One call more. Assumes nothing.
-use Rattle.std.proofs.Common.{◌≡◌, ℕ, ◌+◌, ◌<◌, List, [], ◌∷◌, ◌++◌, map, length, get_or, take, ℤ, Result, sym, refl, ap, ◌∙◌, subst}
+use Rattle.std.proofs.Common.{◌≡◌, ℕ, ◌+◌, ◌<◌, List, [], ◌∷◌, ◌++◌, map, length, get_or, take, ℤ, Ok, Err, Result, MatchResult, sym, refl, ap, ◌∙◌, subst}
 use Rattle.std.proofs.lemmas.List.{take_more, map_push}
 use Rattle.lattice.specs.Lattice.{Lattice}
 use Rattle.records.specs.declared.refusal.Refusal.{Refusal}
@@ -8,7 +8,9 @@ use Rattle.machine.specs.Machine.{System, State, bare, step, history, final}
 use Rattle.siteunit.specs.declared.site.SiteBox.{SiteBox}
 use Rattle.siteunit.specs.Obeying.{system_of, answer_of, StandsFor, Obeys}
 use Rattle.stream.specs.declared.answers.Answer.{Answer}
+use Rattle.stream.specs.declared.answers.Answer.TheVariants.{Refused}
 use Rattle.stream.specs.declared.calls.Call.{Call}
+use Rattle.stream.specs.declared.image.TheConstants.{IMAGE_ROOM}
 use Rattle.stream.specs.Calls.{heard}
 use Rattle.session.specs.Sessions.{told, answers_to}
 
@@ -20,6 +22,11 @@ answers_push : (S : System) (st : State) (cs : List machine.Call) (c : machine.C
     → map (λ e. e.answer) (history S st (cs ++ c ∷ [])) ≡ map (λ e. e.answer) (history S st cs) ++ ((step S (final S st cs) c).answer ∷ [])
 answers_push S st [] c = refl
 answers_push S st (d ∷ cs) c = ap (λ l. (step S st d).answer ∷ l) (answers_push S (step S st d).next cs c)
+
+-- the answer that tells a result
+pub tells : (r : Result Answer Refusal) (a : Answer) → MatchResult r (λ x. a ≡ x) (λ e. a ≡ Refused e) → told a ≡ answer_of told r
+tells (Ok x) a h = ap told h
+tells (Err e) a h = ap told h
 
 module _ {X Y : Type 0} (lattice_of : X → Lattice) (values_of : Y → List ℤ) (image : List ℤ → List ℕ) (lat : X) where
   abbrev S : System
@@ -47,8 +54,8 @@ module _ {X Y : Type 0} (lattice_of : X → Lattice) (values_of : Y → List ℤ
       }
 
   pub run_next : (calls : List Call) (i : ℕ) (d : Call) → i < length calls → (b b' : SiteBox X Y) (vs ws : List Answer) (r : Result Answer Refusal) (a : Answer)
-      → Sofar b vs (map (heard 320) (take i calls)) → Obeys lattice_of values_of image told b b' (heard 320 (get_or calls i d)) r → told a ≡ answer_of told r → ws ≡ vs ++ a ∷ []
-      → Sofar b' ws (map (heard 320) (take (i + 1) calls))
+      → Sofar b vs (map (heard IMAGE_ROOM) (take i calls)) → Obeys lattice_of values_of image told b b' (heard IMAGE_ROOM (get_or calls i d)) r → told a ≡ answer_of told r → ws ≡ vs ++ a ∷ []
+      → Sofar b' ws (map (heard IMAGE_ROOM) (take (i + 1) calls))
   run_next calls i d l b b' vs ws r a h o t e =
-      subst (Sofar b' ws) (sym (ap (map (heard 320)) (take_more calls i d l) ∙ map_push (heard 320) (take i calls) (get_or calls i d)))
-      (run_more b b' vs ws (map (heard 320) (take i calls)) (heard 320 (get_or calls i d)) r a h o t e)
+      subst (Sofar b' ws) (sym (ap (map (heard IMAGE_ROOM)) (take_more calls i d l) ∙ map_push (heard IMAGE_ROOM) (take i calls) (get_or calls i d)))
+      (run_more b b' vs ws (map (heard IMAGE_ROOM) (take i calls)) (heard IMAGE_ROOM (get_or calls i d)) r a h o t e)

@@ -1,7 +1,6 @@
 // One call on a box, whichever it is.
-ghost use Rattle.std.specs.Prelude.{◌≡◌};
 ghost use Rattle.machine.specs.Calls.{image};
-ghost use Rattle.siteunit.specs.Obeying.{Obeys, answer_of};
+ghost use Rattle.siteunit.specs.Obeying.{Obeys};
 ghost use Rattle.stream.specs.Calls.{heard};
 ghost use Rattle.session.specs.Sessions.{told};
 
@@ -10,13 +9,13 @@ use lattice::Lattice;
 use records::Refusal;
 use siteunit::SiteBox;
 use store::Store;
-use stream::{Answer, Call, ImageBytes};
+use stream::{Answer, Call, IMAGE_ROOM, ImageBytes};
 
 // The image of the store, for who may know every variable.
 fn show<L: Lattice, S: Store>(site: &SiteBox<L, S>, level: u32) -> Result<Answer, Refusal>
-    ensures { Obeys L.Lattice.lattice S.Store.values S.Store.image told site.now site.now (image level 320) result }
+    ensures { Obeys L.Lattice.lattice S.Store.values S.Store.image told site.now site.now (image level IMAGE_ROOM) result }
 {
-    let mut buffer = [0; 320];
+    let mut buffer = [0; IMAGE_ROOM];
     let size = site.image(level, &mut buffer)?;
     Ok(Answer::Image(ImageBytes { size, buffer }))
 }
@@ -26,11 +25,11 @@ pub(crate) fn perform<L: Lattice, S: Store>(
     site: &mut SiteBox<L, S>,
     call: &Call,
 ) -> Result<Answer, Refusal>
-    ensures { Obeys L.Lattice.lattice S.Store.values S.Store.image told site.old site.new (heard 320 call.now) result }
+    ensures { Obeys L.Lattice.lattice S.Store.values S.Store.image told site.old site.new (heard IMAGE_ROOM call.now) result }
 {
     Ok(match *call {
-        Call::Sheet(bytes) => Answer::Number(site.sheet(bytes)? as i32),
-        Call::Load(bytes) => Answer::Number(site.load(bytes)? as i32),
+        Call::Sheet(bytes) => Answer::Number(i32::from(site.sheet(bytes)?)),
+        Call::Load(bytes) => Answer::Number(i32::from(site.load(bytes)?)),
         Call::Feed { variable, value } => {
             site.feed(variable, value)?;
             Answer::Number(0)
@@ -48,17 +47,7 @@ pub(crate) fn perform<L: Lattice, S: Store>(
             Ending::Spent { used } => Answer::Spent(used),
         },
         Call::Look { level, variable } => Answer::Number(site.look(level, variable)?),
-        Call::Ask { level, condition } => Answer::Number(site.ask(level, condition)? as i32),
+        Call::Ask { level, condition } => Answer::Number(i32::from(site.ask(level, condition)?)),
         Call::Image { level } => show(site, level)?,
     })
-}
-
-// The answer that tells a result.
-pub(crate) fn tell(res: Result<Answer, Refusal>) -> Answer
-    ensures { told result ≡ answer_of told res }
-{
-    match res {
-        Ok(answer) => answer,
-        Err(refusal) => Answer::Refused(refusal),
-    }
 }

@@ -23,7 +23,7 @@ mod tests {
             Answer::Image(image) => 10000 + image.size as i32,
             Answer::Done(_) => 2000,
             Answer::Spent(_) => 3000,
-            Answer::Refused(refusal) => 4000 + refusal.number as i32,
+            Answer::Refused(refusal) => 4000 + i32::from(refusal.number),
         }
     }
 
@@ -69,8 +69,8 @@ mod tests {
         let expected = [4010, 3, 1, 0, 2000, 14, size, 0, 0, 4020, 1, 0, 0, 4025];
         let mut answers = [Answer::Number(-1); 16];
         assert_eq!(rt; run::<Chain, S>(Chain { top: 3 }, &calls, &mut answers), 14);
-        for i in 0..14 {
-            assert_eq!(rt; number(answers[i]), expected[i]);
+        for (answer, expected) in answers.iter().zip(&expected) {
+            assert_eq!(rt; number(*answer), *expected);
         }
         assert_eq!(rt; number(answers[14]), -1, "the rest of the buffer");
         let mut few = [Answer::Number(-1); 2];

@@ -128,13 +128,3 @@ module _ (input rest : List ℕ) (head : Record) (f : Fit head) (stands : input 
         stands = stands ∙ ap (λ s. bytes (s ∷ []) ++ rest) (sym p.0) ∙ ap (λ b. bytes (head_of (heard 0 call) ∷ []) ++ (b ++ rest)) (sym p.1) ∙ sym (append_assoc (bytes (head_of (heard 0 call) ∷ [])) (body_of (heard 0 call)) rest);
         whole = ap (λ b. length b % 8) p.1;
       }
-
-  pub read_long : (call : coded.Call) (after : List ℕ) → head_of (heard 0 call) ≡ head → rest ≡ body_of (heard 0 call) ++ after → length (body_of (heard 0 call)) ≡ 8 * head.n → CallRead input call after
-  read_long call after h r l = record {
-    stands = stands ∙ ap (λ s. bytes (s ∷ []) ++ rest) (sym h) ∙ ap (λ b. bytes (head_of (heard 0 call) ∷ []) ++ b) r ∙ sym (append_assoc (bytes (head_of (heard 0 call) ∷ [])) (body_of (heard 0 call)) after);
-    whole = omega (arith, l);
-  }
-
--- the head of a sheet or a program of so many records
-pub head_long : (r : Record) (letter : ℕ) (xs : List ℕ) → (eqb r.letter letter && number_head r) ≡ true → length xs ≡ 8 * r.n → call_record letter 0 (length xs / 8) ≡ r
-head_long r letter xs h l = ap (call_record letter 0) (omega (arith, l)) ∙ sym (head_number r letter h)

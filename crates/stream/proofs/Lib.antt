@@ -1,3 +1,3 @@
 pub mod Decoding
-pub mod Writing
 pub mod Digits
+pub mod Refusing

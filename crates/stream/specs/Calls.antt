@@ -7,8 +7,6 @@ use Rattle.records.specs.Records.{Fit, bytes}
 use Rattle.machine.specs.Calls.{Call}
 use Rattle.stream.specs.declared.calls.Call as coded
 use Rattle.stream.specs.declared.calls.Call.TheVariants.{Sheet, Load, Feed, Raise, Lower, Pass, Look, Ask, Image}
-use Rattle.stream.specs.declared.calls.Next.{Next}
-use Rattle.stream.specs.declared.calls.Next.TheVariants as next
 
 abbrev pub call_record : ℕ → ℕ → ℕ → Record
 call_record letter a n = record { letter = letter; a = a; b = 0; c = 0; n = n }
@@ -81,8 +79,3 @@ pub record CallRead (input : List ℕ) (call : coded.Call) (rest : List ℕ) : T
 pub record NoCall (input : List ℕ) : Type 0 where
   pub some : input ≡ [] → ⊥
   pub none : (c : Call) (rest : List ℕ) → Fit (head_of c) → input ≢ call_bytes c ++ rest
-
-abbrev pub Reads : List ℕ → Next → Type 0
-Reads input (next.Call call rest) = CallRead input call rest.now
-Reads input next.End = input ≡ []
-Reads input next.Stop = NoCall input

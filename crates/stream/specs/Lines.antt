@@ -3,19 +3,24 @@ use Rattle.std.specs.Prelude.{ℕ, ◌/◌, ◌%◌, false, List, [], ◌∷◌,
 use Rattle.std.specs.Fmt.{digit_glyph, signed_decimal}
 use Rattle.stream.specs.declared.answers.Answer.{Answer}
 use Rattle.stream.specs.declared.answers.Answer.TheVariants.{Number, Image, Done, Spent, Refused}
+use Rattle.stream.specs.declared.image.ImageBytes.{ImageBytes}
 use Rattle.stream.specs.declared.answers.Line.{Line}
+use Rattle.records.specs.Refusals.{refusal_text}
 
 -- two lowercase digits a byte
 abbrev pub hexadecimal : List ℕ → List ℕ
 hexadecimal [] = []
 hexadecimal (b ∷ bs) = digit_glyph false (b / 16) ∷ digit_glyph false (b % 16) ∷ hexadecimal bs
 
+abbrev pub image_text : ImageBytes → List ℕ
+image_text image = hexadecimal (take image.size image.buffer)
+
 abbrev pub answer_text : Answer → List ℕ
 answer_text (Number n) = codes " ok " ++ signed_decimal n
-answer_text (Image image) = codes " ok " ++ hexadecimal (take image.size image.buffer)
+answer_text (Image image) = codes " ok " ++ image_text image
 answer_text (Done turns) = codes " done " ++ decimal turns
 answer_text (Spent turns) = codes " spent " ++ decimal turns
-answer_text (Refused e) = codes " no " ++ (decimal e.number ++ (codes " " ++ (decimal e.place ++ (codes " " ++ decimal e.detail))))
+answer_text (Refused e) = codes " no " ++ refusal_text e
 
 abbrev pub text : Line → List ℕ
 text l = decimal l.count ++ answer_text l.answer

@@ -1,15 +1,9 @@
 // The answers to calls.
-ghost use Rattle.std.specs.Prelude.{◌≡◌, ◌≤◌, length};
+ghost use Rattle.std.specs.Prelude.{◌≡◌};
+ghost use Rattle.stream.specs.declared.answers.Answer.TheVariants.{Refused};
 
+use crate::image::ImageBytes;
 use records::Refusal;
-
-/// The bytes of an image, at the front of a buffer that has room for the image of either store.
-#[derive(Clone, Copy)]
-pub struct ImageBytes {
-    pub size: usize,
-    pub buffer: [u8; 320],
-    ghost within: { (length buffer ≡ 320) × (size ≤ 320) },
-}
 
 /// What a call answers: a number, an image, how a pass ended and the turns that it used, or a refusal.
 #[derive(Clone, Copy)]
@@ -19,6 +13,14 @@ pub enum Answer {
     Done(u32),
     Spent(u32),
     Refused(Refusal),
+}
+
+impl From<Refusal> for Answer {
+    ghost from_gives = { λ refusal answer. answer ≡ Refused refusal };
+
+    fn from(refusal: Refusal) -> Answer {
+        Answer::Refused(refusal)
+    }
 }
 
 /// An answer with the count of its call, from 0.

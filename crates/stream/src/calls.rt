@@ -13,11 +13,3 @@ pub enum Call<'a> {
     Ask { level: u32, condition: u8 },
     Image { level: u32 },
 }
-
-/// What stands next in a stream: a call and the bytes after it, the end, or what is no call.
-#[derive(Clone, Copy)]
-pub enum Next<'a> {
-    Call(Call<'a>, &'a [u8]),
-    End,
-    Stop,
-}

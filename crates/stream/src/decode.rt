@@ -1,8 +1,11 @@
 // Reading calls from a stream.
-ghost use Rattle.std.specs.Prelude.{◌≡◌, ◌*◌, ◌<◌, Bool, ◌++◌, length, MatchOption};
-ghost use Rattle.stream.specs.Calls.{plain_head, number_head, name_head, short_call, Reads};
+ghost use Rattle.std.specs.Prelude.{◌≡◌, ◌*◌, ◌<◌, Bool, ◌++◌, length, MatchResult};
+ghost use Rattle.stream.specs.Calls.{plain_head, number_head, name_head, short_call, CallRead, NoCall};
+ghost use Rattle.stream.specs.CallLengths.{call_shorter};
+ghost use Rattle.stream.specs.Segments.{Reads};
 
-use crate::calls::{Call, Next};
+use crate::calls::Call;
+use crate::segment::{Malformed, Segment};
 use records::{Record, next_record};
 
 // No field is named but a and n.
@@ -54,40 +57,46 @@ fn short_call(head: Record) -> Option<Call<'static>>
 }
 
 // So many records from the front of the input, and what follows them.
-fn split_records(input: &[u8], count: u32) -> Option<(&[u8], &[u8])>
-    ensures { MatchOption result
-        (length input.now < 8 * count)
-        (λ p. (input.now ≡ p.0.now ++ p.1.now) × (length p.0.now ≡ 8 * count)) }
+fn split_records(input: &[u8], count: u32) -> Result<(&[u8], &[u8]), Malformed>
+    ensures { MatchResult result
+        (λ p. (input.now ≡ p.0.now ++ p.1.now) × (length p.0.now ≡ 8 * count))
+        (λ _. length input.now < 8 * count) }
 {
-    let size = 8 * count as usize;
-    if input.len() < size {
-        return None;
-    }
-    Some((&input[..size], &input[size..]))
+    input.split_at_checked(8 * count as usize).ok_or(Malformed)
 }
 
-/// What stands at the front of the input.
-pub fn next_call(input: &[u8]) -> Next<'_>
-    ensures { Reads input.now result }
+/// The call at the front of the input and the bytes after it, or `None` at the end.
+pub fn next_call(input: &[u8]) -> Result<Option<(Call<'_>, &[u8])>, Malformed>
+    ensures { Reads CallRead NoCall input.now result }
 {
     if input.is_empty() {
-        return Next::End;
+        return Ok(None);
     }
-    let Some((head, rest)) = next_record(input) else {
-        return Next::Stop;
-    };
+    let (head, rest) = next_record(input).ok_or(Malformed)?;
     match head.letter as char {
-        'h' if names_number(head) => match split_records(rest, head.n) {
-            Some((sheet, after)) => Next::Call(Call::Sheet(sheet), after),
-            None => Next::Stop,
-        },
-        'l' if names_number(head) => match split_records(rest, head.n) {
-            Some((program, after)) => Next::Call(Call::Load(program), after),
-            None => Next::Stop,
-        },
-        _ => match short_call(head) {
-            Some(call) => Next::Call(call, rest),
-            None => Next::Stop,
-        },
+        'h' if names_number(head) => {
+            let (sheet, after) = split_records(rest, head.n)?;
+            Ok(Some((Call::Sheet(sheet), after)))
+        }
+        'l' if names_number(head) => {
+            let (program, after) = split_records(rest, head.n)?;
+            Ok(Some((Call::Load(program), after)))
+        }
+        _ => {
+            let call = short_call(head).ok_or(Malformed)?;
+            Ok(Some((call, rest)))
+        }
+    }
+}
+
+impl<'a> Segment<'a> for Call<'a> {
+    ghost stands = { CallRead };
+
+    ghost stops = { NoCall };
+
+    ghost shorter = { call_shorter };
+
+    fn next(input: &'a [u8]) -> Result<Option<(Call<'a>, &'a [u8])>, Malformed> {
+        next_call(input)
     }
 }

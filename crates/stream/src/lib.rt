@@ -4,8 +4,13 @@
 mod answers;
 mod calls;
 mod decode;
+mod image;
 mod lines;
+mod segment;
 
-pub use answers::{Answer, ImageBytes, Line};
-pub use calls::{Call, Next};
+pub use answers::{Answer, Line};
+pub use calls::Call;
 pub use decode::next_call;
+pub use image::{IMAGE_ROOM, ImageBytes};
+pub use lines::print_lines;
+pub use segment::{Malformed, Segment};

@@ -1,33 +1,21 @@
 // Answers as lines of text.
-ghost use Rattle.std.specs.Prelude.{◌≡◌, ◌<◌, false, Some};
-ghost use Rattle.std.specs.Fmt.{WritesOnOk, digit_glyph};
-ghost use Rattle.stream.specs.Lines.{hexadecimal, text};
+ghost use Rattle.std.specs.Prelude.{Some};
+ghost use Rattle.stream.specs.Lines.{image_text, text};
 
 use crate::answers::{Answer, Line};
-use records::Refusal;
-use std::fmt;
+use crate::image::ImageBytes;
+use std::{fmt, io};
 
-// A lowercase hexadecimal digit.
-fn digit(number: u8) -> char
-    requires { number < 16 }
-    ensures { result ≡ digit_glyph false number }
-{
-    if number < 10 {
-        (b'0' + number) as char
-    } else {
-        (b'a' + (number - 10)) as char
-    }
-}
+/// Each byte as two lowercase hexadecimal digits.
+impl fmt::Display for ImageBytes {
+    ghost output = { λ image. Some (image_text image) };
 
-// Writes each byte as two digits.
-fn write_bytes<W: fmt::Write>(f: &mut fmt::Formatter<W>, bytes: &[u8]) -> fmt::Result
-    ensures { WritesOnOk W.Write.write_str_gives f.old result (hexadecimal bytes.now) f.new }
-{
-    for &byte in bytes {
-        f.write_char(digit(byte / 16))?;
-        f.write_char(digit(byte % 16))?;
+    fn fmt<W: fmt::Write>(&self, f: &mut fmt::Formatter<W>) -> fmt::Result {
+        for byte in self.bytes() {
+            write!(f, "{byte:02x}")?;
+        }
+        Ok(())
     }
-    Ok(())
 }
 
 impl fmt::Display for Line {
@@ -37,19 +25,18 @@ impl fmt::Display for Line {
         let count = self.count;
         match self.answer {
             Answer::Number(n) => write!(f, "{count} ok {n}"),
-            Answer::Image(image) => {
-                write!(f, "{count} ok ")?;
-                write_bytes(f, &image.buffer[..image.size])
-            }
+            Answer::Image(image) => write!(f, "{count} ok {image}"),
             Answer::Done(turns) => write!(f, "{count} done {turns}"),
             Answer::Spent(turns) => write!(f, "{count} spent {turns}"),
-            Answer::Refused(
-                Refusal {
-                    number,
-                    place,
-                    detail,
-                },
-            ) => write!(f, "{count} no {number} {place} {detail}"),
+            Answer::Refused(refusal) => write!(f, "{count} no {refusal}"),
         }
     }
+}
+
+/// Prints a line for each answer, and `stop` where the calls end before their stream.
+pub fn print_lines(rt: &impl Print, answers: &[Answer], ended: bool) -> io::Result<()> {
+    for (count, &answer) in answers.iter().enumerate() {
+        rt.println(Line { count, answer })?;
+    }
+    if ended { Ok(()) } else { rt.println("stop") }
 }

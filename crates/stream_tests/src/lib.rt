@@ -3,48 +3,54 @@
 
 #[cfg(test)]
 mod tests {
+    use decoder::decode;
     use records::Refusal;
+    use std::alloc::{AllocError, Global};
     use std::test::Fail;
-    use stream::{Answer, Call, ImageBytes, Line, Next, next_call};
+    use stream::{Answer, Call, IMAGE_ROOM, ImageBytes, Line, next_call};
 
-    // How many calls stand in front of the end, or of what is no call.
-    fn count(stream: &[u8]) -> (usize, bool) {
-        let mut left = stream;
-        for count in 0..=stream.len() {
-            match next_call(left) {
-                Next::Call(_, rest) => left = rest,
-                Next::End => return (count, true),
-                Next::Stop => return (count, false),
-            }
-        }
-        (0, false)
+    // How many calls stand in front of the end, or of what is no call, and whether it is the end.
+    fn count(heap: Global, stream: &[u8]) -> Result<(usize, bool), AllocError> {
+        let calls = decode::<Call>(heap, stream)?;
+        Ok((calls.items.len(), calls.ended()))
     }
 
     #[test]
-    fn the_empty_stream_ends(rt: HostRuntime) {
-        assert_eq!(rt; count(b""), (0, true));
+    fn the_empty_stream_ends(rt: HostRuntime) -> Result<(), Fail> {
+        assert_eq!(rt; count(rt.alloc(), b"")?, (0, true));
+        Ok(())
     }
 
     #[test]
-    fn every_letter_is_a_call(rt: HostRuntime) {
+    fn every_letter_is_a_call(rt: HostRuntime) -> Result<(), Fail> {
         assert_eq!(rt;
-            count(b"h\0\0\0\0\0\0\x01C\0\0\0\0\0\0\0l\0\0\0\0\0\0\0f\x05\0\0\xff\xff\xff\xff"),
+            count(
+                rt.alloc(),
+                b"h\0\0\0\0\0\0\x01C\0\0\0\0\0\0\0l\0\0\0\0\0\0\0f\x05\0\0\xff\xff\xff\xff"
+            )?,
             (3, true)
         );
         assert_eq!(rt;
-            count(b"u\x09\0\0\0\0\0\0d\x09\0\0\0\0\0\0p\0\0\0\0\0\0\x0a"),
+            count(
+                rt.alloc(),
+                b"u\x09\0\0\0\0\0\0d\x09\0\0\0\0\0\0p\0\0\0\0\0\0\x0a"
+            )?,
             (3, true)
         );
         assert_eq!(rt;
-            count(b"k\x02\0\0\0\0\0\x01q\x02\0\0\0\0\0\x01i\0\0\0\0\0\0\x03"),
+            count(
+                rt.alloc(),
+                b"k\x02\0\0\0\0\0\x01q\x02\0\0\0\0\0\x01i\0\0\0\0\0\0\x03"
+            )?,
             (3, true)
         );
+        Ok(())
     }
 
     #[test]
     fn arguments_are_read(rt: HostRuntime) -> Result<(), Fail> {
         match next_call(b"f\x05\0\0\xff\xff\xff\xfe") {
-            Next::Call(Call::Feed { variable, value }, rest) => {
+            Ok(Some((Call::Feed { variable, value }, rest))) => {
                 assert_eq!(rt; variable, 5);
                 assert_eq!(rt; value, -2);
                 assert_eq!(rt; rest.len(), 0);
@@ -57,7 +63,7 @@ mod tests {
     #[test]
     fn the_records_after_a_sheet_are_handed_on(rt: HostRuntime) -> Result<(), Fail> {
         match next_call(b"h\0\0\0\0\0\0\x01C\0\0\0\0\0\0\x07p\0\0\0\0\0\0\0") {
-            Next::Call(Call::Sheet(bytes), rest) => {
+            Ok(Some((Call::Sheet(bytes), rest))) => {
                 assert_eq!(rt; bytes.len(), 8);
                 assert_eq!(rt; rest.len(), 8);
                 Ok(())
@@ -67,25 +73,43 @@ mod tests {
     }
 
     #[test]
-    fn what_is_no_call_stops(rt: HostRuntime) {
-        assert_eq!(rt; count(b"p\0\0\0\0\0\0"), (0, false), "a short record");
+    fn what_is_no_call_stops(rt: HostRuntime) -> Result<(), Fail> {
         assert_eq!(rt;
-            count(b"p\0\0\0\0\0\0\0p"),
+            count(rt.alloc(), b"p\0\0\0\0\0\0")?,
+            (0, false),
+            "a short record"
+        );
+        assert_eq!(rt;
+            count(rt.alloc(), b"p\0\0\0\0\0\0\0p")?,
             (1, false),
             "a short record after a call"
         );
-        assert_eq!(rt; count(b"x\0\0\0\0\0\0\0"), (0, false), "an unknown letter");
-        assert_eq!(rt; count(b"p\x01\0\0\0\0\0\0"), (0, false), "an unnamed field");
         assert_eq!(rt;
-            count(b"u\0\0\0\0\0\0\x01"),
+            count(rt.alloc(), b"x\0\0\0\0\0\0\0")?,
+            (0, false),
+            "an unknown letter"
+        );
+        assert_eq!(rt;
+            count(rt.alloc(), b"p\x01\0\0\0\0\0\0")?,
+            (0, false),
+            "an unnamed field"
+        );
+        assert_eq!(rt;
+            count(rt.alloc(), b"u\0\0\0\0\0\0\x01")?,
             (0, false),
             "an unnamed number"
         );
         assert_eq!(rt;
-            count(b"h\0\0\0\0\0\0\x02C\0\0\0\0\0\0\0"),
+            count(rt.alloc(), b"h\0\0\0\0\0\0\x02C\0\0\0\0\0\0\0")?,
             (0, false),
             "a record too few"
         );
+        Ok(())
+    }
+
+    // The line of an answer.
+    fn line(heap: Global, count: usize, answer: Answer) -> Result<String, AllocError> {
+        format!(in heap; "{}", Line { count, answer })
     }
 
     #[test]
@@ -96,48 +120,11 @@ mod tests {
             place: 3,
             detail: 257,
         };
+        assert_eq!(rt; line(heap, 0, Answer::Number(-7))?.as_str(), "0 ok -7");
+        assert_eq!(rt; line(heap, 11, Answer::Spent(2))?.as_str(), "11 spent 2");
+        assert_eq!(rt; line(heap, 4, Answer::Done(0))?.as_str(), "4 done 0");
         assert_eq!(rt;
-            format!(in heap;
-                "{}",
-                Line {
-                    count: 0,
-                    answer: Answer::Number(-7)
-                }
-            )?
-            .as_str(),
-            "0 ok -7"
-        );
-        assert_eq!(rt;
-            format!(in heap;
-                "{}",
-                Line {
-                    count: 11,
-                    answer: Answer::Spent(2)
-                }
-            )?
-            .as_str(),
-            "11 spent 2"
-        );
-        assert_eq!(rt;
-            format!(in heap;
-                "{}",
-                Line {
-                    count: 4,
-                    answer: Answer::Done(0)
-                }
-            )?
-            .as_str(),
-            "4 done 0"
-        );
-        assert_eq!(rt;
-            format!(in heap;
-                "{}",
-                Line {
-                    count: 5,
-                    answer: Answer::Refused(refusal)
-                }
-            )?
-            .as_str(),
+            line(heap, 5, Answer::Refused(refusal))?.as_str(),
             "5 no 16 3 257"
         );
         Ok(())
@@ -145,21 +132,13 @@ mod tests {
 
     #[test]
     fn images_are_lines(rt: HostRuntime) -> Result<(), Fail> {
-        let heap = rt.alloc();
-        let mut buffer = [0; 320];
+        let mut buffer = [0; IMAGE_ROOM];
         buffer[1] = 10;
         buffer[2] = 255;
         buffer[3] = 1;
         let image = ImageBytes { size: 3, buffer };
         assert_eq!(rt;
-            format!(in heap;
-                "{}",
-                Line {
-                    count: 6,
-                    answer: Answer::Image(image)
-                }
-            )?
-            .as_str(),
+            line(rt.alloc(), 6, Answer::Image(image))?.as_str(),
             "6 ok 000aff"
         );
         Ok(())

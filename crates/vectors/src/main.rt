@@ -5,21 +5,10 @@ use bundle::{note, play, split, times};
 use decoder::decode;
 use std::io;
 use std::io::Read;
-use stream::{Answer, Line};
-
-// Prints the lines of a stream.
-fn print_lines(rt: &impl Print, answers: &[Answer], ended: bool) -> io::Result<()> {
-    for (count, answer) in answers.iter().enumerate() {
-        rt.println(Line {
-            count,
-            answer: *answer,
-        })?;
-    }
-    if ended { Ok(()) } else { rt.println("stop") }
-}
+use stream::{Answer, Call, print_lines};
 
 // Prints how many streams and calls there were, and how often each rule refused.
-fn print_summary(rt: &impl Print, streams: usize, outcomes: &[u8]) -> io::Result<()> {
+fn print_summary(rt: &impl Print, streams: usize, outcomes: &[Option<u8>]) -> io::Result<()> {
     let calls = outcomes.len();
     println!(rt; "streams {streams}")?;
     println!(rt; "calls {calls}")?;
@@ -33,19 +22,19 @@ fn print_summary(rt: &impl Print, streams: usize, outcomes: &[u8]) -> io::Result
 fn main(rt: HostRuntime) -> io::Result<()> {
     let mut input = Vec::new(rt.alloc());
     rt.stdin().read_to_end(&mut input)?;
-    let (streams, whole) = split(rt.alloc(), input.as_slice())?;
+    let streams = split(rt.alloc(), &input)?;
     let mut outcomes = Vec::new(rt.alloc());
-    for (count, stream) in streams.iter().enumerate() {
+    for (count, stream) in streams.items.iter().enumerate() {
         let setting = stream.setting;
-        let (calls, ended) = decode(rt.alloc(), stream.calls)?;
-        let mut answers = vec![in rt.alloc(); Answer::Number(0); calls.len()]?;
-        play(setting, calls.as_slice(), &mut answers);
+        let calls = decode::<Call>(rt.alloc(), stream.calls)?;
+        let mut answers = vec![in rt.alloc(); Answer::Number(0); calls.items.len()]?;
+        play(setting, &calls.items, &mut answers);
         println!(rt; "stream {count} {setting}")?;
-        print_lines(&rt, answers.as_slice(), ended)?;
-        note(&mut outcomes, answers.as_slice())?;
+        print_lines(&rt, &answers, calls.ended())?;
+        note(&mut outcomes, &answers)?;
     }
-    if !whole {
+    if !streams.ended() {
         rt.println("broken")?;
     }
-    print_summary(&rt, streams.len(), outcomes.as_slice())
+    print_summary(&rt, streams.items.len(), &outcomes)
 }

@@ -2,8 +2,8 @@ use Rattle.std.proofs.Common.{length, vec_items}
 use Rattle.decoder.specs.Decoding.{Follow}
 use Rattle.decoder.proofs.decode.Given as goal
 
-abbrev pub invariant-loop-call : goal.invariant-loop-call
-invariant-loop-call l = Follow l.stream (vec_items l.calls) l.left
+abbrev pub invariant-loop-segment : goal.invariant-loop-segment
+invariant-loop-segment g l = Follow g.T.Segment.stands l.bytes (vec_items l.items) l.left
 
-abbrev pub decreases-loop-call : goal.decreases-loop-call
-decreases-loop-call l = length l.left
+abbrev pub decreases-loop-segment : goal.decreases-loop-segment
+decreases-loop-segment g l = length l.left

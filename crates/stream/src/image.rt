@@ -1,0 +1,24 @@
+// Images of a store.
+ghost use Rattle.std.specs.Prelude.{◌≡◌, ◌≤◌, length, take};
+ghost use Rattle.stream.specs.declared.image.TheConstants.{IMAGE_ROOM};
+
+/// The room for an image of either store.
+pub const IMAGE_ROOM: usize = 320;
+
+/// The bytes of an image, at the front of a buffer.
+// By number: no heap in the box, so the buffer has fixed room.
+#[derive(Clone, Copy)]
+pub struct ImageBytes {
+    pub size: usize,
+    pub buffer: [u8; IMAGE_ROOM],
+    ghost within: { (length buffer ≡ IMAGE_ROOM) × (size ≤ IMAGE_ROOM) },
+}
+
+impl ImageBytes {
+    /// The image alone.
+    pub fn bytes(&self) -> &[u8]
+        ensures { result.now ≡ take self.now.size self.now.buffer }
+    {
+        &self.buffer[..self.size]
+    }
+}
