@@ -1,4 +1,4 @@
--- Which stream stands at the front of a bundle, and one stream more of it. Assumes nothing.
+-- Where no stream stands at the front of a bundle. Assumes nothing.
 use Rattle.std.proofs.Common.{◌≡◌, ℕ, ◌<◌, ◌≤◌, ◌≢◌, List, [], ◌∷◌, ◌++◌, length, sym, ap, ◌∙◌, subst, arith}
 use Rattle.std.proofs.lemmas.List.{length-append, append_assoc}
 use Rattle.records.specs.declared.Record.{Record}
@@ -41,11 +41,3 @@ module _ (input rest : List ℕ) (head : Record) (f : Fit head) (stands : input 
     some = something;
     none = λ s calls after k e. let p = front s calls after k e in let n : length calls ≡ head.n = ap (λ r. r.n) p.0 in absurd (omega (arith, l, n, ap length p.1, length-append calls after));
   }
-
-  pub read : (stream : Stream) (after : List ℕ) → head_of stream.setting head.n ≡ head → length stream.calls.now ≡ head.n → rest ≡ stream.calls.now ++ after → head.n ≤ 65536 → StreamRead input stream after
-  read stream after h l r k =
-      let calls = stream.calls.now in
-      let s = stream.setting in record {
-        stands = stands ∙ ap (λ x. bytes (x ∷ []) ++ rest) (sym (ap (head_of s) l ∙ h)) ∙ ap (λ b. bytes (head_of s (length calls) ∷ []) ++ b) r ∙ sym (append_assoc (bytes (head_of s (length calls) ∷ [])) calls after);
-        short = subst (λ n. n ≤ 65536) (sym l) k;
-      }

@@ -14,13 +14,13 @@ use Rattle.stream.specs.Calls.{call_record, head_of, body_of, call_bytes, heard,
 -- ── the heads ──
 
 module _ (r : Record) (l : ℕ) where
-  pub head_plain : (eqb r.letter l && plain_head r) ≡ true → r ≡ call_record l r.a r.n
+  head_plain : (eqb r.letter l && plain_head r) ≡ true → r ≡ call_record l r.a r.n
   head_plain h =
       let p = and_parts (eqb r.letter l) (plain_head r) h in
       let q = and_parts (eqb r.b 0) (eqb r.c 0) p.1 in
       λ i. record { letter = eqb-true r.letter l p.0 i; a = r.a; b = eqb-true r.b 0 q.0 i; c = eqb-true r.c 0 q.1 i; n = r.n }
 
-  pub head_number : (eqb r.letter l && number_head r) ≡ true → r ≡ call_record l 0 r.n
+  head_number : (eqb r.letter l && number_head r) ≡ true → r ≡ call_record l 0 r.n
   head_number h =
       let p = and_parts (eqb r.letter l) (number_head r) h in
       let o = and_parts (eqb r.a 0) (plain_head r) p.1 in
@@ -43,7 +43,7 @@ pick : (b : Bool) (r : Record) (x call : coded.Call) (o : Option coded.Call) →
 pick true r x call o s h k = let e : x ≡ call = cc h in subst (Short r) e (s refl)
 pick false r x call o s h k = k h
 
-pub short_read : (r : Record) (call : coded.Call) → Fit r → Some call ≡ short_call r → Short r call
+short_read : (r : Record) (call : coded.Call) → Fit r → Some call ≡ short_call r → Short r call
 short_read r call f h =
     pick (eqb r.letter 102 && plain_head r) r (Feed r.a (to_z w32 r.n)) call _ (λ e. (ap (call_record 102 r.a) (of_z-to_z w32 r.n f) ∙ sym (head_plain r 102 e), refl)) h
     (λ h1. pick (eqb r.letter 117 && name_head r) r (Raise r.a) call _ (λ e. (sym (head_name r 117 e), refl)) h1
