@@ -374,6 +374,12 @@ module _ (m : FlowMasks) (pc : Masks) (opened : ℕ) (inner : Option Innermost) 
         ∙ ap (λ x. answer C sh (established (at middle bs (context_of inside) (λ c. B.reads.commands c)) k x) second) (kind_found (Some Mark) k.letter (Some First) mark.is)
         ∙ ap (λ x. answer C sh (at (middle + 1) (else_block t then_block_lem (context_of pc) around ∷ blocks) x (λ c. c)) second) T.under
 
+    pub second_refused : (x : Refusal) → Refused m inside (opened + 1) (Some Second) (middle + 1) second x → Refused m pc opened inner place (r ∷ rs) x
+    second_refused x f = record {
+      says = λ C sh blocks around A.
+          test_turns C sh blocks around A ∙ f.says C sh (else_block t then_block_lem (context_of pc) around ∷ blocks) (λ c. c) (within C sh blocks (else_block t then_block_lem (context_of pc) around) (Some Second) refl A);
+    }
+
     module _ (zs : List Instruction) (end : ℕ) (rest : List Record) (D : BlockRead m inside (opened + 1) (Some Second) (middle + 1) second ys zs end rest) where
       abbrev else_block_lem : Command
       else_block_lem = body D.reads

@@ -70,6 +70,14 @@ check_block-returns-clause-answer t c =
     rw c.at.ensures
     (steps.refused_after _ _ _ _ i.reads (steps.refused_as _ _ _ _ (records_short c.loop-first.ahead.left.now c.in_default.ensures) (steps.left_open _ _ _ c.args.block.innermost _ c.in-Some-innermost.is)))
 
+pub check_branch-returns-in_err-behind-clause-answer : goal.check_branch-returns-in_err-behind-clause-answer
+check_branch-returns-in_err-behind-clause-answer t c inner test T =
+    let f = c.in_ok-second.ensures.forward in
+    let B = steps.block_at _ _ _ _ c.args.test.next c.in_ok-second.ensures.answer in
+    let k : c.in_ok-second.second.place ≡ c.in_ok-second.second.place - 1 + 1 = omega (arith, f.1) in
+    at_err _ _ _ _ c.from_residual-in_err-behind.ensures.1
+    (steps.second_refused _ _ _ inner _ c.args.test.line.first _ c.args.test.kind test _ T _ _ _ _ B _ (steps.refused_at _ _ _ _ k (steps.refused_under c.check_block.ensures.restored.masks _ _ refl c.in_err-behind.ensures.answer)))
+
 pub check_branch-returns-clause-answer : goal.check_branch-returns-clause-answer
 check_branch-returns-clause-answer t c inner test T =
     let f = c.in_ok-second.ensures.forward in
