@@ -7,7 +7,7 @@ use session::run;
 use std::io;
 use std::io::Read;
 use store::{DenseStore, Store};
-use stream::{Answer, Call, print_lines};
+use stream::{Answer, Call, Transcript};
 
 // The most bytes of input that are read.
 const INPUT_BYTES: u64 = 65536;
@@ -18,5 +18,8 @@ fn main(rt: HostRuntime) -> io::Result<()> {
     let stream = decode::<Call>(rt.alloc(), &input)?;
     let mut answers = vec![in rt.alloc(); Answer::Number(0); stream.items.len()]?;
     run::<Chain, DenseStore>(Chain { top: 3 }, &stream.items, &mut answers);
-    print_lines(&rt, &answers, stream.ended())
+    rt.print(Transcript {
+        answers: &answers,
+        ended: stream.ended(),
+    })
 }

@@ -1,3 +1,4 @@
 pub mod Decoding
 pub mod Digits
 pub mod Refusing
+pub mod Transcripts

@@ -1,10 +1,11 @@
 -- The line of text that an answer prints: the call's count, and ok, done, spent or no with what belongs to it.
-use Rattle.std.specs.Prelude.{ℕ, ◌/◌, ◌%◌, false, List, [], ◌∷◌, ◌++◌, take, codes, decimal}
+use Rattle.std.specs.Prelude.{ℕ, ◌+◌, ◌/◌, ◌%◌, false, cond, List, [], ◌∷◌, ◌++◌, take, codes, decimal}
 use Rattle.std.specs.Fmt.{digit_glyph, signed_decimal}
 use Rattle.stream.specs.declared.answers.Answer.{Answer}
 use Rattle.stream.specs.declared.answers.Answer.TheVariants.{Number, Image, Done, Spent, Refused}
 use Rattle.stream.specs.declared.image.ImageBytes.{ImageBytes}
 use Rattle.stream.specs.declared.answers.Line.{Line}
+use Rattle.stream.specs.declared.transcript.Transcript.{Transcript}
 use Rattle.records.specs.Refusals.{refusal_text}
 
 -- two lowercase digits a byte
@@ -24,3 +25,11 @@ answer_text (Refused e) = codes " no " ++ refusal_text e
 
 abbrev pub text : Line → List ℕ
 text l = decimal l.count ++ answer_text l.answer
+
+-- a line for each answer, the first with this count
+abbrev pub lines_from : ℕ → List Answer → List ℕ
+lines_from n [] = []
+lines_from n (a ∷ rest) = text (record { count = n; answer = a }) ++ (codes "\n" ++ lines_from (n + 1) rest)
+
+abbrev pub transcript_text : Transcript → List ℕ
+transcript_text t = lines_from 0 t.answers.now ++ cond t.ended [] (codes "stop\n")

@@ -7,10 +7,11 @@ mod decode;
 mod image;
 mod lines;
 mod segment;
+mod transcript;
 
 pub use answers::{Answer, Line};
 pub use calls::Call;
 pub use decode::next_call;
 pub use image::{IMAGE_ROOM, ImageBytes};
-pub use lines::print_lines;
 pub use segment::{Malformed, Segment};
+pub use transcript::Transcript;

@@ -4,7 +4,7 @@ ghost use Rattle.stream.specs.Lines.{image_text, text};
 
 use crate::answers::{Answer, Line};
 use crate::image::ImageBytes;
-use std::{fmt, io};
+use std::fmt;
 
 /// Each byte as two lowercase hexadecimal digits.
 impl fmt::Display for ImageBytes {
@@ -31,12 +31,4 @@ impl fmt::Display for Line {
             Answer::Refused(refusal) => write!(f, "{count} no {refusal}"),
         }
     }
-}
-
-/// Prints a line for each answer, and `stop` where the calls end before their stream.
-pub fn print_lines(rt: &impl Print, answers: &[Answer], ended: bool) -> io::Result<()> {
-    for (count, &answer) in answers.iter().enumerate() {
-        rt.println(Line { count, answer })?;
-    }
-    if ended { Ok(()) } else { rt.println("stop") }
 }

@@ -5,7 +5,7 @@ use bundle::{note, play, split, times};
 use decoder::decode;
 use std::io;
 use std::io::Read;
-use stream::{Answer, Call, print_lines};
+use stream::{Answer, Call, Transcript};
 
 // Prints how many streams and calls there were, and how often each rule refused.
 fn print_summary(rt: &impl Print, streams: usize, outcomes: &[Option<u8>]) -> io::Result<()> {
@@ -30,7 +30,10 @@ fn main(rt: HostRuntime) -> io::Result<()> {
         let mut answers = vec![in rt.alloc(); Answer::Number(0); calls.items.len()]?;
         play(setting, &calls.items, &mut answers);
         println!(rt; "stream {count} {setting}")?;
-        print_lines(&rt, &answers, calls.ended())?;
+        rt.print(Transcript {
+            answers: &answers,
+            ended: calls.ended(),
+        })?;
         note(&mut outcomes, &answers)?;
     }
     if !streams.ended() {
