@@ -1,5 +1,5 @@
 -- Which rules refused calls.
-use Rattle.std.specs.Prelude.{ℕ, Bool, false, List, Some, None, Option, count_by, ◌==◌}
+use Rattle.std.specs.Prelude.{ℕ, Bool, true, false, List, Some, None, Option, count_by, ◌==◌}
 use Rattle.stream.specs.declared.answers.Answer.{Answer}
 use Rattle.stream.specs.declared.answers.Answer.TheVariants.{Number, Image, Done, Spent, Refused}
 
@@ -11,9 +11,11 @@ outcome (Done turns) = None
 outcome (Spent turns) = None
 outcome (Refused e) = Some e.number
 
-abbrev pub is_by : ℕ → Option ℕ → Bool
-is_by rule (Some number) = number == rule
-is_by rule None = false
+abbrev pub same : Option ℕ → Option ℕ → Bool
+same (Some rule) (Some other) = rule == other
+same None None = true
+same (Some rule) None = false
+same None (Some other) = false
 
-abbrev pub occurrences : ℕ → List (Option ℕ) → ℕ
-occurrences rule os = count_by (is_by rule) os
+abbrev pub occurrences : Option ℕ → List (Option ℕ) → ℕ
+occurrences o os = count_by (λ other. same other o) os

@@ -22,12 +22,9 @@ pub fn note(outcomes: &mut Vec<Option<u8>>, answers: &[Answer]) -> Result<(), Al
     outcomes.extend(answers.iter().map(outcome_of))
 }
 
-/// How often a rule refused.
-pub fn times(outcomes: &[Option<u8>], rule: u8) -> usize
-    ensures { result ≡ occurrences rule outcomes.now }
+/// How often an outcome stands among them.
+pub fn times(outcomes: &[Option<u8>], outcome: Option<u8>) -> usize
+    ensures { result ≡ occurrences outcome outcomes.now }
 {
-    outcomes
-        .iter()
-        .filter(|outcome| outcome.is_some_and(|number| number == rule))
-        .count()
+    outcomes.iter().filter(|&&other| other == outcome).count()
 }

@@ -13,7 +13,7 @@ fn print_summary(rt: &impl Print, streams: usize, outcomes: &[Option<u8>]) -> io
     println!(rt; "streams {streams}")?;
     println!(rt; "calls {calls}")?;
     for rule in 1..27u8 {
-        let refused = times(outcomes, rule);
+        let refused = times(outcomes, Some(rule));
         println!(rt; "rule {rule} {refused}")?;
     }
     Ok(())
