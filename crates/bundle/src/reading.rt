@@ -37,6 +37,7 @@ impl TryFrom<Record> for Setting {
 
     fn try_from(head: Record) -> Result<Setting, Malformed> {
         let kind = Kind::try_from(head.b)?;
+        // By letter: the format's own.
         let order = match head.letter as char {
             'c' if head.c == 0 => Order::Chain(head.a),
             'r' if head.a == 0 && head.c == 0 => Order::Readers,

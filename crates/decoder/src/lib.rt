@@ -32,6 +32,7 @@ pub fn decode<'a, T: Segment<'a>>(
 {
     let mut items = Vec::new(heap);
     let mut left = bytes;
+    // No iterator: what is left behind the last segment is answered too.
     while let Ok(Some((segment, rest))) = T::next(left) {
         items.push(segment)?;
         left = rest;

@@ -1,4 +1,4 @@
--- One turn of a loop that decides a bit of a mask, or fills a place of a list. Assumes nothing.
+-- One turn of a loop that decides a bit of a mask. Assumes nothing.
 use Rattle.std.proofs.Common.{◌≡◌, ℕ, zero, suc, ◌+◌, ◌*◌, ◌%◌, ◌^◌, ◌<◌, Bool, true, false, cond, ◌||◌, eqb, ◌≢◌, List, length, get_or, set, replicate, sym, refl, ap, ◌∙◌, subst, inl, inr, arith, length-set, below_more}
 use lib.Bits.{bit_or}
 use lib.ListN.{length-replicate}
@@ -42,35 +42,3 @@ bits_left P i m m' h p e = bits_more P false i m m' h p (λ k. ap (bit k) e ∙ 
 
 pub bits_all : {P : ℕ → Bool → Type 0} {m : ℕ} (i n : ℕ) → i ≡ n → EachBit i P m → EachBit n P m
 bits_all {P} {m} i n = subst (λ k. EachBit k P m)
-
--- a list of this size, filled up to a place
-pub record Filling {X : Type 0} (size n : ℕ) (none : X) (P : ℕ → X → Type 0) (xs : List X) : Type 0 where
-  pub full : length xs ≡ size
-  pub items : EachItem n none P xs
-
-pub items_none : {X : Type 0} (P : ℕ → X → Type 0) (d : X) (size : ℕ) → Filling size 0 d P (replicate size d)
-items_none P d size = record { full = length-replicate size d; items = record { below = λ i h. absurd (omega arith); beyond = λ i h. all_alike size i d } }
-  where
-    all_alike : {X : Type 0} (n v : ℕ) (d : X) → get_or (replicate n d) v d ≡ d
-    all_alike zero zero d = refl
-    all_alike zero (suc v) d = refl
-    all_alike (suc n) zero d = refl
-    all_alike (suc n) (suc v) d = all_alike n v d
-
--- place i is filled, the others stay
-pub items_more : {X : Type 0} (P : ℕ → X → Type 0) (d : X) (size i : ℕ) (xs : List X) (x : X) → i < size → Filling size i d P xs → P i x → Filling size (i + 1) d P (set xs i x)
-items_more P d size i xs x l h p =
-    let within : i < length xs = omega arith in
-    record {
-      full = length-set xs i x ∙ h.full;
-      items = record {
-        below = below_more (λ k. P k (get_or (set xs i x) k d)) i (λ k j. subst (P k) (sym (other k (λ e. omega arith))) (h.items.below k j)) (subst (P i) (sym (get_or-set_same xs i x d within)) p);
-        beyond = λ k j. other k (λ e. omega arith) ∙ h.items.beyond k (omega arith);
-      };
-    }
-  where
-    other : (k : ℕ) → k ≢ i → get_or (set xs i x) k d ≡ get_or xs k d
-    other k ne = get_or-set_other xs i k x d ne
-
-pub items_all : {X : Type 0} {P : ℕ → X → Type 0} {d : X} {size : ℕ} {xs : List X} (i n : ℕ) → i ≡ n → Filling size i d P xs → EachItem n d P xs
-items_all {X} {P} {d} {size} {xs} i n e h = subst (λ k. EachItem k d P xs) e h.items

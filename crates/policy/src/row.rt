@@ -14,6 +14,7 @@ pub struct GuardedLevel {
 }
 
 /// A policy as its guarded levels, at most eight, and as a mask the conditions that wipe a variable of it.
+// A count beside an array: no heap, so the levels have fixed room.
 #[derive(Clone, Copy, Default)]
 pub struct Row {
     pub levels: [GuardedLevel; 8],

@@ -50,6 +50,7 @@ impl Checker<'_> {
         };
         guard.checker.context = block.inside;
         let mut ahead = cursor;
+        // No iterator: how far a command goes is known once it is checked.
         while let Some((first, behind)) = ahead.split_first() {
             let line = Line {
                 first,

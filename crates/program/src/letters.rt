@@ -9,6 +9,7 @@ use crate::kept::Sign;
 pub(crate) fn kind_at(letter: u8, innermost: Option<Innermost>) -> Option<RecordKind>
     ensures { result ≡ kind_at letter innermost }
 {
+    // By letter: the format's own.
     let kind = match letter as char {
         'S' => RecordKind::Set,
         '+' => RecordKind::Sign(Sign::Plus),

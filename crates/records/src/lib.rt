@@ -13,6 +13,7 @@ pub use refusal::Refusal;
 pub use rule::Rule;
 
 /// A record: its letter, three bytes and a number of four bytes, most significant first.
+// A letter by number: any byte may stand there, and each reader says what kind of record it is.
 #[derive(Clone, Copy)]
 pub struct Record {
     pub letter: u8,

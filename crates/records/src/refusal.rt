@@ -5,6 +5,7 @@ ghost use Rattle.records.specs.Refusals.{refusal, refusal_text};
 use std::fmt;
 
 /// Which rule is broken, at which record, and by what; place and detail are 0 where the rule names none.
+// A rule by number: an answer's line prints it, and `new` takes any.
 #[derive(Clone, Copy, Debug, PartialEq)]
 pub struct Refusal {
     pub number: u8,

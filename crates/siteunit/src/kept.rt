@@ -36,6 +36,16 @@ pub(crate) struct KeptSheet {
     ghost sizes: { (length levels ≡ 16) × (length access ≡ 64) },
 }
 
+// The place of what has this number, if so many are declared; else this rule is broken.
+fn place_of(number: u8, count: usize, rule: Rule) -> Result<usize, Rule>
+    ensures { MatchResult result
+        (λ place. (place ≡ number) × (number < count))
+        (λ broken. (broken ≡ rule) × (count ≤ number)) }
+{
+    let place = number as usize;
+    if place < count { Ok(place) } else { Err(rule) }
+}
+
 impl KeptSheet {
     /// The access to each variable that the sheet declares.
     pub(crate) fn declared(&self) -> &[Access]
@@ -50,12 +60,7 @@ impl KeptSheet {
             (λ place. (place ≡ variable) × (variable < self.now.masks.variables))
             (λ rule. (rule ≡ IsVariable) × (self.now.masks.variables ≤ variable)) }
     {
-        let place = variable as usize;
-        if place < self.masks.variables {
-            Ok(place)
-        } else {
-            Err(Rule::IsVariable)
-        }
+        place_of(variable, self.masks.variables, Rule::IsVariable)
     }
 
     /// The place of a condition, if the sheet declares it.
@@ -64,11 +69,6 @@ impl KeptSheet {
             (λ place. (place ≡ condition) × (condition < self.now.masks.conditions))
             (λ rule. (rule ≡ IsCondition) × (self.now.masks.conditions ≤ condition)) }
     {
-        let place = condition as usize;
-        if place < self.masks.conditions {
-            Ok(place)
-        } else {
-            Err(Rule::IsCondition)
-        }
+        place_of(condition, self.masks.conditions, Rule::IsCondition)
     }
 }

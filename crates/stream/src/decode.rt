@@ -35,6 +35,7 @@ fn short_call(head: Record) -> Option<Call<'static>>
 {
     let a = head.a;
     let n = head.n;
+    // By letter: the format's own.
     match head.letter as char {
         'f' if is_plain(head) => Some(Call::Feed {
             variable: a,
@@ -73,6 +74,7 @@ pub fn next_call(input: &[u8]) -> Result<Option<(Call<'_>, &[u8])>, Malformed>
         return Ok(None);
     }
     let (head, rest) = next_record(input).ok_or(Malformed)?;
+    // By letter: the format's own.
     match head.letter as char {
         'h' if names_number(head) => {
             let (sheet, after) = split_records(rest, head.n)?;
