@@ -35,6 +35,22 @@ def lines_like(text, pattern):
     return [(k, line.strip()) for k, line in enumerate(text.split("\n"), 1) if re.search(pattern, line)]
 
 
+def ranges(text):
+    """Each `for` over a range of numbers and each `while` that counts: its line, its text, and whether its body indexes with the number."""
+    lines = text.split("\n")
+    for k, line in enumerate(lines):
+        if not re.search(INDEX, line):
+            continue
+        name = re.match(r"\s*(?:for|while) (\w+)", line)[1]
+        indent = len(line) - len(line.lstrip())
+        body = []
+        for later in lines[k + 1:]:
+            if later.strip() and len(later) - len(later.lstrip()) <= indent:
+                break
+            body.append(later)
+        yield k + 1, line.strip(), any(re.search(r"\[[^\];]*\b" + name + r"\b", t) for t in body)
+
+
 def functions(text):
     """Each function's line, name, and parameters as texts."""
     for m in re.finditer(r"^\s*(?:pub(?:\(crate\))? )?(?:final )?fn (\w+)(?:<[^(]*>)?\(([^{]*?)\)(?: ->|\n|$)", text, re.M):
@@ -64,7 +80,9 @@ def main():
     show("1 rules as numbers", grep(RULE_NUMBER))
     show("1 kinds as letters or numbers", grep(LETTER, tests=False))
     show("1 a flag with a value beside it", grep(FLAG, tests=False))
-    show("3 loops over an index or a count", grep(INDEX))
+    loops = [(p, k, s, indexes) for p, t in files for k, s, indexes in ranges(t)]
+    show("3 loops that count an index", [(p, k, s) for p, k, s, indexes in loops if indexes])
+    show("3 ranges whose number is the value itself (no places)", [(p, k, s) for p, k, s, indexes in loops if not indexes])
     show("3 walks by hand", grep(WALK))
     show("4 conversions, defaults and printing by hand", grep(BY_HAND, tests=False))
 

@@ -1,4 +1,4 @@
-// Erasure policies as rows of guarded levels, and sets of conditions as masks.
+// Erasure policies as rows of guarded levels, and sets of small numbers as masks.
 #![tactic(auto)]
 
 mod mask;

@@ -1,5 +1,5 @@
 -- Rules are asked in an order, and the first that fails is the answer.
-use Rattle.std.specs.Prelude.{ℕ, zero, suc, ◌+◌, Bool, cond, List, [], ◌∷◌, Ok, Err, Result}
+use Rattle.std.specs.Prelude.{◌≡◌, ℕ, zero, suc, ◌+◌, Bool, cond, List, [], ◌∷◌, Ok, Err, Result, MatchResult}
 use Rattle.records.specs.declared.refusal.Refusal.{Refusal}
 use Rattle.records.specs.Refusals.{refusal}
 
@@ -33,3 +33,7 @@ first (q ∷ qs) next = cond q.holds (first qs next) (refused q.refusal)
 abbrev pub judged : {X : Type 0} → List Rule → X → Result X Refusal
 judged [] x = Ok x
 judged (q ∷ qs) x = cond q.holds (judged qs x) (Err q.refusal)
+
+-- a check of rules that stand before others: where it passes they go on, and where it refuses they refuse so
+abbrev pub Checked : {X Y : Type 0} → (Reading X → Reading X) → Result Y Refusal → Type 0
+Checked {X} asked r = MatchResult r (λ _. (next : Reading X) → asked next ≡ next) (λ e. (next : Reading X) → asked next ≡ refused e)

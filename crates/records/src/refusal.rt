@@ -6,7 +6,7 @@ use std::fmt;
 
 /// Which rule is broken, at which record, and by what; place and detail are 0 where the rule names none.
 // A rule by number: an answer's line prints it, and `new` takes any.
-#[derive(Clone, Copy, Debug, PartialEq)]
+#[derive(Clone, Copy, Debug, PartialEq, Eq)]
 pub struct Refusal {
     pub number: u8,
     pub place: usize,
@@ -14,6 +14,7 @@ pub struct Refusal {
 }
 
 impl Refusal {
+    /// The refusal by the rule of this number.
     pub fn new(number: u8, place: usize, detail: u32) -> Refusal
         ensures { result ≡ refusal number place detail }
     {
@@ -25,6 +26,7 @@ impl Refusal {
     }
 }
 
+/// Number, place and detail, with a blank between.
 impl fmt::Display for Refusal {
     ghost output = { λ e. Some (refusal_text e) };
 
