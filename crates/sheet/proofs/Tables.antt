@@ -29,9 +29,6 @@ represents_empty row grants e l = record {
   grants = λ p h. absurd (omega arith);
 }
 
-pub at_end : {X : Type 0} (xs : List X) (x d : X) → get_or (xs ++ x ∷ []) (length xs) d ≡ x
-at_end xs x d = grind (arith, common_steps)
-
 -- one more in a table and in a list
 pub grows : {X Y : Type 0} (R : Y → X → Type 0) (ys : List Y) (xs : List X) (y dy : Y) (x dx : X) (n : ℕ) → n ≡ length xs → n < length ys
     → ((k : ℕ) → k < length xs → R (get_or ys k dy) (get_or xs k dx)) → R y x → (k : ℕ) → k < length (xs ++ x ∷ []) → R (get_or (set ys n y) k dy) (get_or (xs ++ x ∷ []) k dx)
