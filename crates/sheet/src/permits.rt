@@ -19,12 +19,13 @@ fn check_mask(mask: u32, conditions: usize, place: usize) -> Result<(), Refusal>
         (λ _. (a : Reading Sheet) → first_failing (mask_rules conditions mask place) a ≡ a)
         (λ e. (a : Reading Sheet) → first_failing (mask_rules conditions mask place) a ≡ refused e) }
 {
-    for condition in 0..32u8 {
-        if has(mask.into(), condition) && condition as usize >= conditions {
-            return Err(Rule::DeclaredCondition.at(place, condition.into()));
-        }
+    let undeclared = (0..32u8).find(|&condition| {
+        has(mask.into(), condition) && condition as usize >= conditions
+    });
+    match undeclared {
+        Some(condition) => Err(Rule::DeclaredCondition.at(place, condition.into())),
+        None => Ok(()),
     }
-    Ok(())
 }
 
 impl<'l, L: Lattice> SheetReader<'l, L> {
