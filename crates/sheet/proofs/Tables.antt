@@ -1,11 +1,10 @@
 -- Tables of a sheet. Assumes nothing.
-use Rattle.std.proofs.Common.{◌≡◌, ℕ, ◌<◌, ◌≤◌, List, [], ◌∷◌, ◌++◌, length, get_or, set, replicate, refl, ap, ◌∙◌, arith}
+use Rattle.std.proofs.Common.{◌≡◌, ℕ, ◌<◌, ◌≤◌, List, [], ◌∷◌, ◌++◌, length, get_or, set, arith}
 use Rattle.std.proofs.lemmas.Grind.{common_steps}
 use Rattle.std.specs.Array.{AllOfLen}
 use Rattle.policy.specs.declared.row.Row.{Row}
 use Rattle.policy.specs.Rows.{blank}
-use Rattle.sheet.specs.declared.rows.VariableRow.{VariableRow}
-use Rattle.sheet.specs.declared.rows.Grant.{Grant}
+use Rattle.sheet.specs.declared.rows.SheetTable.{SheetTable}
 use Rattle.sheet.specs.Sheet.{empty}
 use Rattle.sheet.specs.Table.{blank_variable, Represents}
 
@@ -13,24 +12,18 @@ use Rattle.sheet.specs.Table.{blank_variable, Represents}
 pub default_row : (r : Row) → AllOfLen (λ x. (x.level ≡ 0) × (x.guard ≡ 0)) r.levels 8 → r.count ≡ 0 → r.wipers ≡ 0 → r ≡ blank
 default_row r h c w = grind (arith, common_steps)
 
-all_alike : {X : Type 0} (n v : ℕ) (d : X) → get_or (replicate n d) v d ≡ d
-all_alike n v d = grind (arith, common_steps)
-
-pub represents_empty : (row : VariableRow) (grants : List Grant) → row ≡ blank_variable → length grants ≡ 8
-    → Represents record { conditions = 0; levels = replicate 16 0; variables = 0; rows = replicate 64 row; permits = 0; grants = grants } empty
-represents_empty row grants e l = record {
-  sizes = (refl, refl, l);
-  conditions = refl;
-  levels = λ c h. absurd (omega arith);
-  variables = refl;
-  rows = λ v h. absurd (omega arith);
-  beyond = λ v h. ap (λ r. get_or (replicate 64 r) v blank_variable) e ∙ all_alike 64 v blank_variable;
-  permits = refl;
-  grants = λ p h. absurd (omega arith);
+pub represents_empty : (t : SheetTable) → t.conditions ≡ 0 → length t.levels ≡ 16 → t.variables ≡ 0 → length t.rows ≡ 64 → ((v : ℕ) → v < 64 → get_or t.rows v blank_variable ≡ blank_variable) → t.permits ≡ 0 → length t.grants ≡ 8
+    → Represents t empty
+represents_empty t c l v r f p g = record {
+  sizes = (l, r, g);
+  conditions = c;
+  levels = λ k h. absurd (omega arith);
+  variables = v;
+  rows = λ k h. absurd (omega arith);
+  beyond = λ k h. grind (arith, common_steps, f k);
+  permits = p;
+  grants = λ k h. absurd (omega arith);
 }
-
-pub at_end : {X : Type 0} (xs : List X) (x d : X) → get_or (xs ++ x ∷ []) (length xs) d ≡ x
-at_end xs x d = grind (arith, common_steps)
 
 -- one more in a table and in a list
 pub grows : {X Y : Type 0} (R : Y → X → Type 0) (ys : List Y) (xs : List X) (y dy : Y) (x dx : X) (n : ℕ) → n ≡ length xs → n < length ys

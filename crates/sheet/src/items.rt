@@ -6,45 +6,42 @@ ghost use Rattle.sheet.specs.Checks.{condition_rules};
 ghost use Rattle.sheet.specs.Reading.{ItemRead, ItemRefused};
 
 use crate::letters::item_at;
-use crate::permits::read_permit;
 use crate::placed::Placed;
 use crate::position::Item;
-use crate::rows::SheetTable;
-use crate::variables::read_variable;
+use crate::read::SheetReader;
 use lattice::Lattice;
 use records::{Cursor, Refusal, Rule};
 
-// A condition's level.
-fn check_condition<L: Lattice>(lattice: &L, item: Placed, count: usize) -> Result<u32, Refusal>
-    ensures { let r = item.entry.record in result ≡ judged (condition_rules r item.entry.place count ((L.Lattice.lattice lattice.now).known r.n)) r.n }
-{
-    let level = item.numbered(count, 16)?;
-    if !lattice.known(level) {
-        return Err(Rule::KnownLevel.at(item.place, level));
-    }
-    Ok(level)
-}
-
-// Reads an item with its trees into the table. Answers the cursor behind it.
-pub(crate) fn read_item<'a, L: Lattice>(
-    lattice: &L,
-    item: Placed<'a>,
-    table: &mut SheetTable,
-) -> Result<Cursor<'a>, Refusal>
-    ensures forward { IfOk result (λ p. length p.left.now ≤ length item.entry.behind.left.now) }
-    ensures answer { MatchResult result
-        (λ p. ItemRead (L.Lattice.lattice lattice.now) table.old table.new item.entry.place item.entry.record (records item.entry.behind.left.now) p.place (records p.left.now))
-        (λ e. ItemRefused (L.Lattice.lattice lattice.now) table.old item.entry.place item.entry.record (records item.entry.behind.left.now) e) }
-{
-    match item_at(item.record.letter, table.section()) {
-        Some(Item::Condition) => {
-            let level = check_condition(lattice, item, table.conditions)?;
-            table.levels[table.conditions] = level;
-            table.conditions += 1;
-            Ok(item.behind)
+impl<'l, L: Lattice> SheetReader<'l, L> {
+    // A condition's level.
+    fn check_condition(&self, item: Placed) -> Result<u32, Refusal>
+        ensures { let r = item.entry.record in result ≡ judged (condition_rules r item.entry.place self.now.table.conditions ((L.Lattice.lattice self.now.lattice.now).known r.n)) r.n }
+    {
+        let level = item.numbered(self.table.conditions, 16)?;
+        if !self.lattice.known(level) {
+            return Err(Rule::KnownLevel.at(item.place, level));
         }
-        Some(Item::Variable) => read_variable(lattice, item, table),
-        Some(Item::Permit) => read_permit(lattice, item, table),
-        None => Err(Rule::SheetLetter.at(item.place, 0)),
+        Ok(level)
+    }
+
+    // Reads an item with its trees into the table. Answers the cursor behind it.
+    pub(crate) fn read_item<'a>(&mut self, item: Placed<'a>) -> Result<Cursor<'a>, Refusal>
+        ensures same { self.new.lattice ≡ self.old.lattice }
+        ensures forward { IfOk result (λ p. length p.left.now ≤ length item.entry.behind.left.now) }
+        ensures answer { MatchResult result
+            (λ p. ItemRead (L.Lattice.lattice self.old.lattice.now) self.old.table self.new.table item.entry.place item.entry.record (records item.entry.behind.left.now) p.place (records p.left.now))
+            (λ e. ItemRefused (L.Lattice.lattice self.old.lattice.now) self.old.table item.entry.place item.entry.record (records item.entry.behind.left.now) e) }
+    {
+        match item_at(item.record.letter, self.table.section()) {
+            Some(Item::Condition) => {
+                let level = self.check_condition(item)?;
+                self.table.levels[self.table.conditions] = level;
+                self.table.conditions += 1;
+                Ok(item.behind)
+            }
+            Some(Item::Variable) => self.read_variable(item),
+            Some(Item::Permit) => self.read_permit(item),
+            None => Err(Rule::SheetLetter.at(item.place, 0)),
+        }
     }
 }

@@ -8,6 +8,7 @@ use crate::position::{Item, Part, Section};
 pub(crate) fn item_at(letter: u8, section: Section) -> Option<Item>
     ensures { result ≡ item_at letter section }
 {
+    // By letter: the format's own.
     match letter as char {
         'C' if section == Section::Conditions => Some(Item::Condition),
         'V' if section != Section::Permits => Some(Item::Variable),
@@ -20,6 +21,7 @@ pub(crate) fn item_at(letter: u8, section: Section) -> Option<Item>
 pub(crate) fn part_at(letter: u8) -> Option<Part>
     ensures { result ≡ part_at letter }
 {
+    // By letter: the format's own.
     match letter as char {
         'L' => Some(Part::Leaf),
         'E' => Some(Part::Node),

@@ -7,8 +7,8 @@ ghost use Rattle.sheet.specs.Checks.{mask_rules};
 ghost use Rattle.sheet.specs.Reading.{ItemRead, ItemRefused};
 
 use crate::placed::Placed;
-use crate::rows::{Grant, SheetTable};
-use crate::trees::TreeReader;
+use crate::read::SheetReader;
+use crate::rows::Grant;
 use lattice::Lattice;
 use policy::has;
 use records::{Cursor, Refusal, Rule};
@@ -19,39 +19,35 @@ fn check_mask(mask: u32, conditions: usize, place: usize) -> Result<(), Refusal>
         (λ _. (a : Reading Sheet) → first_failing (mask_rules conditions mask place) a ≡ a)
         (λ e. (a : Reading Sheet) → first_failing (mask_rules conditions mask place) a ≡ refused e) }
 {
-    for condition in 0..32u8 {
-        if has(mask.into(), condition) && condition as usize >= conditions {
-            return Err(Rule::DeclaredCondition.at(place, condition.into()));
-        }
+    let undeclared = (0..32u8).find(|&condition| {
+        has(mask.into(), condition) && condition as usize >= conditions
+    });
+    match undeclared {
+        Some(condition) => Err(Rule::DeclaredCondition.at(place, condition.into())),
+        None => Ok(()),
     }
-    Ok(())
 }
 
-// Reads a permit with its two trees into the table.
-pub(crate) fn read_permit<'a, L: Lattice>(
-    lattice: &L,
-    item: Placed<'a>,
-    table: &mut SheetTable,
-) -> Result<Cursor<'a>, Refusal>
-    ensures forward { IfOk result (λ p. length p.left.now ≤ length item.entry.behind.left.now) }
-    ensures answer { item.entry.record.letter ≡ 82 → MatchResult result
-        (λ p. ItemRead (L.Lattice.lattice lattice.now) table.old table.new item.entry.place item.entry.record (records item.entry.behind.left.now) p.place (records p.left.now))
-        (λ e. ItemRefused (L.Lattice.lattice lattice.now) table.old item.entry.place item.entry.record (records item.entry.behind.left.now) e) }
-{
-    let number = table.permits;
-    let conditions = item.numbered(number, 8)?;
-    check_mask(conditions, table.conditions, item.place)?;
-    let trees = TreeReader {
-        lattice,
-        conditions: table.conditions,
-    };
-    let (from, between) = trees.read(item.behind)?;
-    let (to, behind) = trees.read(between)?;
-    table.grants[number] = Grant {
-        conditions,
-        from,
-        to,
-    };
-    table.permits = number + 1;
-    Ok(behind)
+impl<'l, L: Lattice> SheetReader<'l, L> {
+    // Reads a permit with its two trees into the table.
+    pub(crate) fn read_permit<'a>(&mut self, item: Placed<'a>) -> Result<Cursor<'a>, Refusal>
+        ensures same { self.new.lattice ≡ self.old.lattice }
+        ensures forward { IfOk result (λ p. length p.left.now ≤ length item.entry.behind.left.now) }
+        ensures answer { item.entry.record.letter ≡ 82 → MatchResult result
+            (λ p. ItemRead (L.Lattice.lattice self.old.lattice.now) self.old.table self.new.table item.entry.place item.entry.record (records item.entry.behind.left.now) p.place (records p.left.now))
+            (λ e. ItemRefused (L.Lattice.lattice self.old.lattice.now) self.old.table item.entry.place item.entry.record (records item.entry.behind.left.now) e) }
+    {
+        let number = self.table.permits;
+        let conditions = item.numbered(number, 8)?;
+        check_mask(conditions, self.table.conditions, item.place)?;
+        let (from, between) = self.read_tree(item.behind)?;
+        let (to, behind) = self.read_tree(between)?;
+        self.table.grants[number] = Grant {
+            conditions,
+            from,
+            to,
+        };
+        self.table.permits = number + 1;
+        Ok(behind)
+    }
 }

@@ -2,7 +2,6 @@
 ghost use Rattle.std.specs.Result.{MatchResult};
 ghost use Rattle.sheet.specs.Reader.{SheetRead, SheetRefused};
 
-use crate::items::read_item;
 use crate::placed::Placed;
 use crate::rows::SheetTable;
 use lattice::Lattice;
@@ -10,6 +9,13 @@ use records::{Cursor, Refusal, Rule};
 
 /// The most bytes that a sheet may have.
 pub const SHEET_BYTES: usize = 4096;
+
+// A sheet being read: the lattice of its levels, and the table of the items so far.
+#[derive(Drop)]
+pub(crate) struct SheetReader<'l, L> {
+    pub(crate) lattice: &'l L,
+    pub(crate) table: SheetTable,
+}
 
 /// Reads a sheet, rules 2 to 9: the tables of the sheet, or the first rule that it breaks.
 pub fn read_sheet<L: Lattice>(lattice: &L, bytes: &[u8]) -> Result<SheetTable, Refusal>
@@ -20,10 +26,14 @@ pub fn read_sheet<L: Lattice>(lattice: &L, bytes: &[u8]) -> Result<SheetTable, R
     if bytes.len() % 8 != 0 || bytes.len() > SHEET_BYTES {
         return Err(Rule::SheetLength.into());
     }
-    let mut table = SheetTable::new();
+    let mut reader = SheetReader {
+        lattice,
+        table: SheetTable::new(),
+    };
     let mut cursor = Cursor::new(bytes);
+    // No iterator: how far an item goes is known once it is read.
     while let Some(item) = Placed::at(cursor) {
-        cursor = read_item(lattice, item, &mut table)?;
+        cursor = reader.read_item(item)?;
     }
-    Ok(table)
+    Ok(reader.table)
 }

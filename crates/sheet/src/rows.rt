@@ -18,7 +18,7 @@ pub struct Grant {
 
 /// A sheet as tables: how many conditions, variables and permits it declares, and what it says of each.
 // By count and array: no heap, so the tables have fixed room.
-#[derive(Clone, Copy)]
+#[derive(Clone, Copy, Default)]
 pub struct SheetTable {
     pub conditions: usize,
     pub levels: [u32; 16],

@@ -5,21 +5,14 @@ ghost use Rattle.sheet.specs.Table.{Represents};
 ghost use Rattle.sheet.specs.Letters.{section};
 
 use crate::position::Section;
-use crate::rows::{Grant, SheetTable, VariableRow};
+use crate::rows::SheetTable;
 
 impl SheetTable {
     /// The table of a sheet that declares nothing.
     pub fn new() -> SheetTable
         ensures { Represents result empty }
     {
-        SheetTable {
-            conditions: 0,
-            levels: [0; 16],
-            variables: 0,
-            rows: [VariableRow::default(); 64],
-            permits: 0,
-            grants: [Grant::default(); 8],
-        }
+        SheetTable::default()
     }
 
     // The section that the items so far have reached.

@@ -9,6 +9,7 @@ ghost use Rattle.sheet.specs.Reading.{TreeRefused, TreeRead};
 use crate::letters::part_at;
 use crate::placed::Placed;
 use crate::position::Part;
+use crate::read::SheetReader;
 use lattice::Lattice;
 use policy::{Row, condition_bit};
 use records::{Cursor, Refusal, Rule};
@@ -22,14 +23,7 @@ fn check_depth(place: usize, depth: u8) -> Result<(), Refusal>
     Ok(())
 }
 
-// What trees are read against: the lattice of their levels, and how many conditions are declared.
-#[derive(Drop)]
-pub(crate) struct TreeReader<'l, L> {
-    pub(crate) lattice: &'l L,
-    pub(crate) conditions: usize,
-}
-
-impl<'l, L: Lattice> TreeReader<'l, L> {
+impl<'l, L: Lattice> SheetReader<'l, L> {
     // A leaf's level.
     fn check_leaf(&self, leaf: Placed, depth: u8) -> Result<u32, Refusal>
         ensures { let r = leaf.entry.record in result ≡ judged (leaf_rules r leaf.entry.place depth ((L.Lattice.lattice self.now.lattice.now).known r.n)) r.n }
@@ -47,13 +41,13 @@ impl<'l, L: Lattice> TreeReader<'l, L> {
 
     // An erasing node's condition.
     fn check_node(&self, node: Placed, depth: u8) -> Result<u8, Refusal>
-        ensures { let r = node.entry.record in result ≡ judged (node_rules r node.entry.place depth self.now.conditions) r.a }
+        ensures { let r = node.entry.record in result ≡ judged (node_rules r node.entry.place depth self.now.table.conditions) r.a }
     {
         let record = node.record;
         if record.b != 0 || record.c != 0 || record.n != 0 {
             return Err(Rule::SheetFields.at(node.place, 0));
         }
-        if record.a as usize >= self.conditions {
+        if record.a as usize >= self.table.conditions {
             return Err(Rule::DeclaredCondition.at(node.place, record.a.into()));
         }
         check_depth(node.place, depth)?;
@@ -61,11 +55,11 @@ impl<'l, L: Lattice> TreeReader<'l, L> {
     }
 
     // Reads a policy: its tree's row, and the cursor behind the tree.
-    pub(crate) fn read<'a>(&self, cursor: Cursor<'a>) -> Result<(Row, Cursor<'a>), Refusal>
+    pub(crate) fn read_tree<'a>(&self, cursor: Cursor<'a>) -> Result<(Row, Cursor<'a>), Refusal>
         ensures forward { IfOk result (λ p. length p.1.left.now < length cursor.entry.left.now) }
         ensures answer { MatchResult result
-            (λ p. TreeRead (L.Lattice.lattice self.now.lattice.now) self.now.conditions cursor.entry.place 1 0 (records cursor.entry.left.now) blank p.0 p.1.place (records p.1.left.now))
-            (λ e. TreeRefused (L.Lattice.lattice self.now.lattice.now) self.now.conditions cursor.entry.place 1 (records cursor.entry.left.now) e) }
+            (λ p. TreeRead (L.Lattice.lattice self.now.lattice.now) self.now.table.conditions cursor.entry.place 1 0 (records cursor.entry.left.now) blank p.0 p.1.place (records p.1.left.now))
+            (λ e. TreeRefused (L.Lattice.lattice self.now.lattice.now) self.now.table.conditions cursor.entry.place 1 (records cursor.entry.left.now) e) }
     {
         let mut row = Row::new();
         let behind = self.read_part(cursor, 1, 0, &mut row)?;
@@ -83,8 +77,8 @@ impl<'l, L: Lattice> TreeReader<'l, L> {
     ) -> Result<Cursor<'a>, Refusal>
         ensures forward { IfOk result (λ p. length p.left.now < length cursor.entry.left.now) }
         ensures answer { MatchResult result
-            (λ p. TreeRead (L.Lattice.lattice self.now.lattice.now) self.now.conditions cursor.entry.place depth guard (records cursor.entry.left.now) row.old row.new p.place (records p.left.now))
-            (λ e. TreeRefused (L.Lattice.lattice self.now.lattice.now) self.now.conditions cursor.entry.place depth (records cursor.entry.left.now) e) }
+            (λ p. TreeRead (L.Lattice.lattice self.now.lattice.now) self.now.table.conditions cursor.entry.place depth guard (records cursor.entry.left.now) row.old row.new p.place (records p.left.now))
+            (λ e. TreeRefused (L.Lattice.lattice self.now.lattice.now) self.now.table.conditions cursor.entry.place depth (records cursor.entry.left.now) e) }
     {
         let Some(first) = Placed::at(cursor) else {
             return Err(Rule::SheetLetter.at(cursor.place, 0));

@@ -7,9 +7,8 @@ ghost use Rattle.sheet.specs.Checks.{variable_rules};
 ghost use Rattle.sheet.specs.Reading.{ItemRead, ItemRefused};
 
 use crate::placed::Placed;
-use crate::rows::{SheetTable, VariableRow};
-use crate::trees::TreeReader;
-use crate::wipers::check_wipers;
+use crate::read::SheetReader;
+use crate::rows::VariableRow;
 use lattice::Lattice;
 use records::{Cursor, Refusal, Rule};
 
@@ -25,27 +24,22 @@ fn check_variable(item: Placed, count: usize) -> Result<bool, Refusal>
     Ok(record.b == 1)
 }
 
-// Reads a variable with its tree into its own row.
-pub(crate) fn read_variable<'a, L: Lattice>(
-    lattice: &L,
-    item: Placed<'a>,
-    table: &mut SheetTable,
-) -> Result<Cursor<'a>, Refusal>
-    ensures forward { IfOk result (λ p. length p.left.now ≤ length item.entry.behind.left.now) }
-    ensures others { (v : ℕ) → v ≢ table.old.variables → slice_index_or table.new.rows v blank_variable ≡ slice_index_or table.old.rows v blank_variable }
-    ensures answer { item.entry.record.letter ≡ 86 → table.old.permits ≡ 0 → MatchResult result
-        (λ p. ItemRead (L.Lattice.lattice lattice.now) table.old table.new item.entry.place item.entry.record (records item.entry.behind.left.now) p.place (records p.left.now))
-        (λ e. ItemRefused (L.Lattice.lattice lattice.now) table.old item.entry.place item.entry.record (records item.entry.behind.left.now) e) }
-{
-    let number = table.variables;
-    let fed = check_variable(item, number)?;
-    let trees = TreeReader {
-        lattice,
-        conditions: table.conditions,
-    };
-    let (policy, behind) = trees.read(item.behind)?;
-    check_wipers(lattice, &table.levels, &policy, item.place)?;
-    table.rows[number] = VariableRow { policy, fed };
-    table.variables = number + 1;
-    Ok(behind)
+impl<'l, L: Lattice> SheetReader<'l, L> {
+    // Reads a variable with its tree into its own row.
+    pub(crate) fn read_variable<'a>(&mut self, item: Placed<'a>) -> Result<Cursor<'a>, Refusal>
+        ensures same { self.new.lattice ≡ self.old.lattice }
+        ensures forward { IfOk result (λ p. length p.left.now ≤ length item.entry.behind.left.now) }
+        ensures others { (v : ℕ) → v ≢ self.old.table.variables → slice_index_or self.new.table.rows v blank_variable ≡ slice_index_or self.old.table.rows v blank_variable }
+        ensures answer { item.entry.record.letter ≡ 86 → self.old.table.permits ≡ 0 → MatchResult result
+            (λ p. ItemRead (L.Lattice.lattice self.old.lattice.now) self.old.table self.new.table item.entry.place item.entry.record (records item.entry.behind.left.now) p.place (records p.left.now))
+            (λ e. ItemRefused (L.Lattice.lattice self.old.lattice.now) self.old.table item.entry.place item.entry.record (records item.entry.behind.left.now) e) }
+    {
+        let number = self.table.variables;
+        let fed = check_variable(item, number)?;
+        let (policy, behind) = self.read_tree(item.behind)?;
+        self.check_wipers(&policy, item.place)?;
+        self.table.rows[number] = VariableRow { policy, fed };
+        self.table.variables = number + 1;
+        Ok(behind)
+    }
 }

@@ -1,29 +1,28 @@
-// Rule 9: the conditions that wipe a variable have levels below its present level.
+// The conditions that wipe a variable.
 ghost use Rattle.std.specs.Prelude.{◌≡◌, MatchResult, slice_index_or};
 ghost use Rattle.policy.specs.Rows.{no_leaf};
 ghost use Rattle.records.specs.Rules.{Reading, refused, first};
 ghost use Rattle.sheet.specs.Sheet.{Sheet};
 ghost use Rattle.sheet.specs.Checks.{wiper_rules};
 
+use crate::read::SheetReader;
 use lattice::Lattice;
 use policy::{Row, has};
 use records::{Refusal, Rule};
 
-pub(crate) fn check_wipers<L: Lattice>(
-    lattice: &L,
-    levels: &[u32; 16],
-    policy: &Row,
-    place: usize,
-) -> Result<(), Refusal>
-    ensures { let present = (slice_index_or policy.now.levels 0 no_leaf).level in MatchResult result
-        (λ _. (a : Reading Sheet) → first (wiper_rules (L.Lattice.lattice lattice.now) levels.now policy.now.wipers present place) a ≡ a)
-        (λ e. (a : Reading Sheet) → first (wiper_rules (L.Lattice.lattice lattice.now) levels.now policy.now.wipers present place) a ≡ refused e) }
-{
-    let present = policy.present_level();
-    for (condition, level) in levels.iter().enumerate() {
-        if has(policy.wipers.into(), condition as u8) && !lattice.below(*level, present) {
-            return Err(Rule::WipersBelow.at(place, condition as u32));
+impl<'l, L: Lattice> SheetReader<'l, L> {
+    // Rule 9: the conditions that wipe a variable have levels below its present level.
+    pub(crate) fn check_wipers(&self, policy: &Row, place: usize) -> Result<(), Refusal>
+        ensures { let present = (slice_index_or policy.now.levels 0 no_leaf).level in MatchResult result
+            (λ _. (a : Reading Sheet) → first (wiper_rules (L.Lattice.lattice self.now.lattice.now) self.now.table.levels policy.now.wipers present place) a ≡ a)
+            (λ e. (a : Reading Sheet) → first (wiper_rules (L.Lattice.lattice self.now.lattice.now) self.now.table.levels policy.now.wipers present place) a ≡ refused e) }
+    {
+        let present = policy.present_level();
+        for (condition, level) in self.table.levels.iter().enumerate() {
+            if has(policy.wipers.into(), condition as u8) && !self.lattice.below(*level, present) {
+                return Err(Rule::WipersBelow.at(place, condition as u32));
+            }
         }
+        Ok(())
     }
-    Ok(())
 }

@@ -1,4 +1,4 @@
-use Rattle.std.proofs.Common.{◌≡◌, ◌%◌, ◌≤◌, false, length, rules}
+use Rattle.std.proofs.Common.{◌≡◌, ◌%◌, ◌≤◌, false, length, refl, rules}
 use Rattle.records.proofs.Formats.{each_at}
 use Rattle.sheet.specs.Rules.{whole_records}
 use Rattle.sheet.proofs.Refusing.{refuses}
@@ -14,11 +14,11 @@ pub loop-item-init : goal.loop-item-init
 loop-item-init g c =
     let m : length c.args.bytes.now % 8 ≡ 0 = search rules in
     let l : length c.args.bytes.now ≤ 4096 = search rules in
-    rw (c.new-cursor.ensures.place, c.new-cursor.ensures.left) (far_start _ c.args.bytes.now _ m l c.new-table.ensures)
+    record { same = refl; far = rw (c.new-cursor.ensures.place, c.new-cursor.ensures.left) (far_start _ c.args.bytes.now _ m l c.new.ensures) }
 
 pub returns-in_err-cursor : goal.returns-in_err-cursor
 returns-in_err-cursor g c = refuses _ _ _ c.from_residual.ensures.1
-    (far_refused _ c.args.bytes.now _ _ _ c.in-Some.item.record _ _ c.in-Some.ensures.2 c.loop-item.invariant (rw c.in-Some.ensures.0 at c.in_err-cursor.ensures.answer))
+    (far_refused _ c.args.bytes.now _ _ _ c.in-Some.item.record _ _ c.in-Some.ensures.2 c.loop-item.invariant.far (rw (c.loop-item.invariant.same, c.in-Some.ensures.0) at c.in_err-cursor.ensures.answer))
 
 pub returns : goal.returns
-returns g c = far_end _ c.args.bytes.now _ _ _ (each_at c.args.bytes.now (λ i. (c.type_inv.bytes i).fits)) c.in_default.ensures c.loop-item.invariant
+returns g c = far_end _ c.args.bytes.now _ _ _ (each_at c.args.bytes.now (λ i. (c.type_inv.bytes i).fits)) c.in_default.ensures c.loop-item.invariant.far

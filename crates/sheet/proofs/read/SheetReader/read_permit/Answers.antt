@@ -1,6 +1,6 @@
 use Rattle.sheet.proofs.PermitSteps as steps
 use Rattle.sheet.proofs.Refusing.{refuses}
-use Rattle.sheet.proofs.permits.read_permit.Goals as goal
+use Rattle.sheet.proofs.read.SheetReader.read_permit.Goals as goal
 
 pub returns-in_err-conditions-clause-answer : goal.returns-in_err-conditions-clause-answer
 returns-in_err-conditions-clause-answer g c = λ l. refuses _ _ _ c.from_residual.ensures.1 (steps.refused_record _ _ _ _ _ l _ c.in_err-conditions.ensures)

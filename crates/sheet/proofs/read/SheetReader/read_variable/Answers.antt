@@ -1,6 +1,6 @@
 use Rattle.sheet.proofs.Refusing.{refuses}
 use Rattle.sheet.proofs.VariableSteps as steps
-use Rattle.sheet.proofs.variables.read_variable.Goals as goal
+use Rattle.sheet.proofs.read.SheetReader.read_variable.Goals as goal
 
 pub returns-in_err-fed-clause-answer : goal.returns-in_err-fed-clause-answer
 returns-in_err-fed-clause-answer g c = λ l np. refuses _ _ _ c.from_residual.ensures.1 (steps.refused_record _ _ _ _ _ l np _ c.in_err-fed.ensures)

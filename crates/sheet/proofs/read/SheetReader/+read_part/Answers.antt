@@ -5,7 +5,7 @@ use Rattle.sheet.proofs.LetterSteps.{leaf_letter, node_letter, neither}
 use Rattle.sheet.proofs.Refusing.{refuses}
 use Rattle.sheet.proofs.TreeSteps as steps
 use Rattle.sheet.proofs.TreeSteps.{refused_as, read_as}
-use Rattle.sheet.proofs.trees.TreeReader.+read_part.Goals as goal
+use Rattle.sheet.proofs.read.SheetReader.+read_part.Goals as goal
 
 pub returns-in_default-clause-answer : goal.returns-in_default-clause-answer
 returns-in_default-clause-answer g t c = rw (c.at-in_default.ensures, c.in_default.ensures) (steps.refused_end _ _ _ _)
