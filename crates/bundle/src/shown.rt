@@ -5,6 +5,7 @@ ghost use Rattle.bundle.specs.Settings.{text};
 use crate::streams::{Kind, Order, Setting};
 use std::fmt;
 
+/// The lattice and the store, as the second program names them.
 impl fmt::Display for Setting {
     ghost output = { λ s. Some (text s) };
 

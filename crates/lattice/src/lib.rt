@@ -27,9 +27,11 @@ pub trait Lattice {
     fn join(&self, a: u32, b: u32) -> u32
         ensures { result ≡ (lattice self.now).join a b };
 
+    /// The level below every known level.
     fn lowest(&self) -> u32
         ensures { result ≡ (lattice self.now).lowest };
 
+    /// The level above every known level.
     fn highest(&self) -> u32
         ensures { result ≡ (lattice self.now).highest };
 

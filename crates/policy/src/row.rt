@@ -40,7 +40,7 @@ impl Row {
         }
     }
 
-    /// Passes an erasing node: before the first leaf its condition becomes a wiper.
+    /// Passes a wiping node: before the first leaf its condition becomes a wiper.
     pub fn pass_node(&mut self, condition: u8)
         ensures { self.new ≡ with_node self.old condition }
     {

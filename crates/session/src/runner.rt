@@ -21,7 +21,7 @@ pub fn run<L: Lattice + Drop, S: Store>(lattice: L, calls: &[Call], answers: &mu
 {
     let mut site: SiteBox<L, S> = SiteBox::new(lattice);
     let count = calls.len().min(answers.len());
-    // Answers by index: no proof knows what an adapter of `iter_mut` has written.
+    // Answers by index: after a `zip` with `iter_mut` the proof no longer knows what `answers` holds.
     for (i, call) in calls[..count].iter().enumerate() {
         answers[i] = perform(&mut site, call).unwrap_or_else(Answer::from);
     }

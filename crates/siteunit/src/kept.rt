@@ -29,7 +29,7 @@ impl From<&VariableRow> for Access {
 /// An accepted sheet: the levels of its conditions, the access to each variable, and what may flow where.
 #[derive(Clone, Copy)]
 pub(crate) struct KeptSheet {
-    // By number, with the counts in the masks: no heap, so the tables have fixed room.
+    // Tables beside the masks, which are of another crate and serve programs alone; no heap, so all have fixed room.
     pub(crate) levels: [u32; 16],
     pub(crate) access: [Access; 64],
     pub(crate) masks: FlowMasks,

@@ -52,6 +52,7 @@ impl Store for DenseStore {
     }
 
     fn image_byte(&self, at: usize) -> u8 {
+        // As in the sparse store, but for the size of what stands at a place: three lines are no helper.
         match self.cells.get(at / 4) {
             Some(cell) => cell.to_be_bytes()[at % 4],
             None => 0,

@@ -33,6 +33,7 @@ pub trait Store: Sized + Drop {
         ensures answer { result ≡ nat_lt place 64 };
 
     /// The value at a place, or 0 at place 64 or more.
+    // No Option: a place beyond the store holds what an unused one holds.
     fn get(&self, place: usize) -> i32
         ensures { result ≡ slice_index_or (values self.now) place (pos 0) };
 

@@ -10,6 +10,7 @@ use records::Refusal;
 pub enum Answer {
     Number(i32),
     Image(ImageBytes),
+    // As in the interpreter, on which a stream does not stand.
     Done(u32),
     Spent(u32),
     Refused(Refusal),

@@ -6,7 +6,7 @@ ghost use Rattle.stream.specs.declared.image.TheConstants.{IMAGE_ROOM};
 pub const IMAGE_ROOM: usize = 320;
 
 /// The bytes of an image, at the front of a buffer.
-// By number: no heap in the box, so the buffer has fixed room.
+// A size beside a buffer: no heap in the box, so the buffer has fixed room.
 #[derive(Clone, Copy)]
 pub struct ImageBytes {
     pub size: usize,

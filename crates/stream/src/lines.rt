@@ -18,6 +18,7 @@ impl fmt::Display for ImageBytes {
     }
 }
 
+/// The count, and `ok`, `done`, `spent` or `no` with what belongs to it.
 impl fmt::Display for Line {
     ghost output = { λ l. Some (text l) };
 
