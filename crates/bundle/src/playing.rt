@@ -8,12 +8,12 @@ use crate::streams::{Kind, Order, Setting};
 use lattice::{Chain, ReaderSets};
 use session::run;
 use store::{DenseStore, SparseStore, Store};
-use stream::{Answer, Call, IMAGE_ROOM};
+use stream::{Answer, Call};
 
 /// Makes calls on a new box in this setting, as many as there is room for answers; answers how many.
 pub fn play(setting: Setting, calls: &[Call], answers: &mut [Answer]) -> usize
     ensures count { result ≡ min (length calls.now) (length answers.old) }
-    ensures answers { map told (take result answers.new) ≡ answers_to (system_for setting) (map (heard IMAGE_ROOM) (take result calls.now)) }
+    ensures answers { map told (take result answers.new) ≡ answers_to (system_for setting) (map (heard 320) (take result calls.now)) }
     ensures rest { drop result answers.new ≡ drop result answers.old }
 {
     match (setting.order, setting.kind) {

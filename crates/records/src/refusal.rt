@@ -26,7 +26,7 @@ impl Refusal {
     }
 }
 
-/// Number, place and detail, with a blank between.
+/// Number, place, detail: a blank between two.
 impl fmt::Display for Refusal {
     ghost output = { λ e. Some (refusal_text e) };
 

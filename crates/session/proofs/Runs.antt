@@ -10,7 +10,6 @@ use Rattle.siteunit.specs.Obeying.{system_of, answer_of, StandsFor, Obeys}
 use Rattle.stream.specs.declared.answers.Answer.{Answer}
 use Rattle.stream.specs.declared.answers.Answer.TheVariants.{Refused}
 use Rattle.stream.specs.declared.calls.Call.{Call}
-use Rattle.stream.specs.declared.image.TheConstants.{IMAGE_ROOM}
 use Rattle.stream.specs.Calls.{heard}
 use Rattle.session.specs.Sessions.{told, answers_to}
 
@@ -54,8 +53,8 @@ module _ {X Y : Type 0} (lattice_of : X → Lattice) (values_of : Y → List ℤ
       }
 
   pub run_next : (calls : List Call) (i : ℕ) (d : Call) → i < length calls → (b b' : SiteBox X Y) (vs ws : List Answer) (r : Result Answer Refusal) (a : Answer)
-      → Sofar b vs (map (heard IMAGE_ROOM) (take i calls)) → Obeys lattice_of values_of image told b b' (heard IMAGE_ROOM (get_or calls i d)) r → told a ≡ answer_of told r → ws ≡ vs ++ a ∷ []
-      → Sofar b' ws (map (heard IMAGE_ROOM) (take (i + 1) calls))
+      → Sofar b vs (map (heard 320) (take i calls)) → Obeys lattice_of values_of image told b b' (heard 320 (get_or calls i d)) r → told a ≡ answer_of told r → ws ≡ vs ++ a ∷ []
+      → Sofar b' ws (map (heard 320) (take (i + 1) calls))
   run_next calls i d l b b' vs ws r a h o t e =
-      subst (Sofar b' ws) (sym (ap (map (heard IMAGE_ROOM)) (take_more calls i d l) ∙ map_push (heard IMAGE_ROOM) (take i calls) (get_or calls i d)))
-      (run_more b b' vs ws (map (heard IMAGE_ROOM) (take i calls)) (heard IMAGE_ROOM (get_or calls i d)) r a h o t e)
+      subst (Sofar b' ws) (sym (ap (map (heard 320)) (take_more calls i d l) ∙ map_push (heard 320) (take i calls) (get_or calls i d)))
+      (run_more b b' vs ws (map (heard 320) (take i calls)) (heard 320 (get_or calls i d)) r a h o t e)

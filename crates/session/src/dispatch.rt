@@ -13,7 +13,7 @@ use stream::{Answer, Call, IMAGE_ROOM, ImageBytes};
 
 // The image of the store, for who may know every variable.
 fn show<L: Lattice, S: Store>(site: &SiteBox<L, S>, level: u32) -> Result<Answer, Refusal>
-    ensures { Obeys L.Lattice.lattice S.Store.values S.Store.image told site.now site.now (image level IMAGE_ROOM) result }
+    ensures { Obeys L.Lattice.lattice S.Store.values S.Store.image told site.now site.now (image level 320) result }
 {
     let mut buffer = [0; IMAGE_ROOM];
     let size = site.image(level, &mut buffer)?;
@@ -25,7 +25,7 @@ pub(crate) fn perform<L: Lattice, S: Store>(
     site: &mut SiteBox<L, S>,
     call: &Call,
 ) -> Result<Answer, Refusal>
-    ensures { Obeys L.Lattice.lattice S.Store.values S.Store.image told site.old site.new (heard IMAGE_ROOM call.now) result }
+    ensures { Obeys L.Lattice.lattice S.Store.values S.Store.image told site.old site.new (heard 320 call.now) result }
 {
     Ok(match *call {
         Call::Sheet(bytes) => Answer::Number(i32::from(site.sheet(bytes)?)),

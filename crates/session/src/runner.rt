@@ -9,13 +9,13 @@ use crate::dispatch::perform;
 use lattice::Lattice;
 use siteunit::SiteBox;
 use store::Store;
-use stream::{Answer, Call, IMAGE_ROOM};
+use stream::{Answer, Call};
 
 /// Makes calls on a new box, as many as there is room for answers; answers how many. The answers are the machine's, and what the
 /// machine promises is promised of them.
 pub fn run<L: Lattice + Drop, S: Store>(lattice: L, calls: &[Call], answers: &mut [Answer]) -> usize
     ensures count { result ≡ min (length calls.now) (length answers.old) }
-    ensures answers { map told (take result answers.new) ≡ answers_to (system_of (L.Lattice.lattice lattice) S.Store.image) (map (heard IMAGE_ROOM) (take result calls.now)) }
+    ensures answers { map told (take result answers.new) ≡ answers_to (system_of (L.Lattice.lattice lattice) S.Store.image) (map (heard 320) (take result calls.now)) }
     ensures rest { drop result answers.new ≡ drop result answers.old }
     ensures promises { Promised (L.Lattice.lattice lattice) S.Store.image }
 {

@@ -1,6 +1,5 @@
 // Images of a store.
 ghost use Rattle.std.specs.Prelude.{◌≡◌, ◌≤◌, length, take};
-ghost use Rattle.stream.specs.declared.image.TheConstants.{IMAGE_ROOM};
 
 /// The room for an image of either store.
 pub const IMAGE_ROOM: usize = 320;
@@ -11,7 +10,7 @@ pub const IMAGE_ROOM: usize = 320;
 pub struct ImageBytes {
     pub size: usize,
     pub buffer: [u8; IMAGE_ROOM],
-    ghost within: { (length buffer ≡ IMAGE_ROOM) × (size ≤ IMAGE_ROOM) },
+    ghost within: { (length buffer ≡ 320) × (size ≤ 320) },
 }
 
 impl ImageBytes {

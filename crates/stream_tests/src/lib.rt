@@ -3,45 +3,42 @@
 
 #[cfg(test)]
 mod tests {
-    use decoder::decode;
     use records::Refusal;
     use std::alloc::{AllocError, Global};
     use std::test::Fail;
-    use stream::{Answer, Call, IMAGE_ROOM, ImageBytes, Line, next_call};
+    use stream::{Answer, Call, IMAGE_ROOM, ImageBytes, Line, Malformed, next_call};
 
     // How many calls stand in front of the end, or of what is no call, and whether it is the end.
-    fn count(heap: Global, stream: &[u8]) -> Result<(usize, bool), AllocError> {
-        let calls = decode::<Call>(heap, stream)?;
-        Ok((calls.items.len(), calls.ended()))
+    fn count(stream: &[u8]) -> (usize, bool) {
+        let mut left = stream;
+        for count in 0..=stream.len() {
+            match next_call(left) {
+                Ok(Some((_, rest))) => left = rest,
+                Ok(None) => return (count, true),
+                Err(Malformed) => return (count, false),
+            }
+        }
+        (0, false)
     }
 
     #[test]
     fn the_empty_stream_ends(rt: HostRuntime) -> Result<(), Fail> {
-        assert_eq!(rt; count(rt.alloc(), b"")?, (0, true));
+        assert_eq!(rt; count(b""), (0, true));
         Ok(())
     }
 
     #[test]
     fn every_letter_is_a_call(rt: HostRuntime) -> Result<(), Fail> {
         assert_eq!(rt;
-            count(
-                rt.alloc(),
-                b"h\0\0\0\0\0\0\x01C\0\0\0\0\0\0\0l\0\0\0\0\0\0\0f\x05\0\0\xff\xff\xff\xff"
-            )?,
+            count(b"h\0\0\0\0\0\0\x01C\0\0\0\0\0\0\0l\0\0\0\0\0\0\0f\x05\0\0\xff\xff\xff\xff"),
             (3, true)
         );
         assert_eq!(rt;
-            count(
-                rt.alloc(),
-                b"u\x09\0\0\0\0\0\0d\x09\0\0\0\0\0\0p\0\0\0\0\0\0\x0a"
-            )?,
+            count(b"u\x09\0\0\0\0\0\0d\x09\0\0\0\0\0\0p\0\0\0\0\0\0\x0a"),
             (3, true)
         );
         assert_eq!(rt;
-            count(
-                rt.alloc(),
-                b"k\x02\0\0\0\0\0\x01q\x02\0\0\0\0\0\x01i\0\0\0\0\0\0\x03"
-            )?,
+            count(b"k\x02\0\0\0\0\0\x01q\x02\0\0\0\0\0\x01i\0\0\0\0\0\0\x03"),
             (3, true)
         );
         Ok(())
@@ -74,33 +71,21 @@ mod tests {
 
     #[test]
     fn what_is_no_call_stops(rt: HostRuntime) -> Result<(), Fail> {
+        assert_eq!(rt; count(b"p\0\0\0\0\0\0"), (0, false), "a short record");
         assert_eq!(rt;
-            count(rt.alloc(), b"p\0\0\0\0\0\0")?,
-            (0, false),
-            "a short record"
-        );
-        assert_eq!(rt;
-            count(rt.alloc(), b"p\0\0\0\0\0\0\0p")?,
+            count(b"p\0\0\0\0\0\0\0p"),
             (1, false),
             "a short record after a call"
         );
+        assert_eq!(rt; count(b"x\0\0\0\0\0\0\0"), (0, false), "an unknown letter");
+        assert_eq!(rt; count(b"p\x01\0\0\0\0\0\0"), (0, false), "an unnamed field");
         assert_eq!(rt;
-            count(rt.alloc(), b"x\0\0\0\0\0\0\0")?,
-            (0, false),
-            "an unknown letter"
-        );
-        assert_eq!(rt;
-            count(rt.alloc(), b"p\x01\0\0\0\0\0\0")?,
-            (0, false),
-            "an unnamed field"
-        );
-        assert_eq!(rt;
-            count(rt.alloc(), b"u\0\0\0\0\0\0\x01")?,
+            count(b"u\0\0\0\0\0\0\x01"),
             (0, false),
             "an unnamed number"
         );
         assert_eq!(rt;
-            count(rt.alloc(), b"h\0\0\0\0\0\0\x02C\0\0\0\0\0\0\0")?,
+            count(b"h\0\0\0\0\0\0\x02C\0\0\0\0\0\0\0"),
             (0, false),
             "a record too few"
         );
