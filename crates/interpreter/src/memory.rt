@@ -11,6 +11,7 @@ use policy::has;
 use store::Store;
 
 /// The memory of a machine: its values, and the conditions that are up, as a mask.
+// Masks stay beside it: they belong to the sheet, which a box keeps apart.
 #[derive(Drop)]
 pub struct Memory<S: Store> {
     pub store: S,

@@ -9,7 +9,6 @@ ghost use Rattle.program.specs.Reading.{Refused, Passed, Branches, BlockRead, en
 ghost use Rattle.program.specs.Forward.{Restored, BlockForward, Forward, CommandRead};
 
 use crate::checker::{Checker, Guard};
-use crate::checks::check_record;
 use crate::context::Context;
 use crate::innermost::{Innermost, RecordKind};
 use crate::kept::Instruction;
@@ -56,7 +55,7 @@ impl Checker<'_> {
                 first,
                 place: ahead.place,
             };
-            match check_record(guard.checker.masks, line, block, guard.checker.context)? {
+            match guard.checker.check_record(line, block)? {
                 RecordKind::Mark => return Ok(behind),
                 kind => {
                     let command = Placed {

@@ -9,6 +9,7 @@ use flow::FlowMasks;
 #[derive(Drop)]
 pub(crate) struct Checker<'m> {
     pub(crate) masks: &'m FlowMasks,
+    // Here, so that no command takes it as a parameter: the guard puts the former one back.
     pub(crate) context: Context,
     pub(crate) instructions: [Instruction; 256],
     ghost full: { length instructions ≡ 256 },

@@ -1,8 +1,8 @@
 // What reaches a target, against what may.
-ghost use Rattle.std.specs.Prelude.{◌≡◌, ℕ, ◌<◌, true, false, MatchResult};
+ghost use Rattle.std.specs.Prelude.{◌≡◌, ℕ, ◌<◌, true, false};
 ghost use Rattle.std.specs.Option as options;
 ghost use Rattle.records.specs.Refusals.{number};
-ghost use Rattle.records.specs.Rules.{Reading, refused, first as first_failing};
+ghost use Rattle.records.specs.Rules.{Checked, first as first_failing};
 ghost use Rattle.machine.specs.Command.{Command};
 ghost use Rattle.program.specs.Checks.{masked};
 ghost use Rattle.program.specs.Rules.{each_within};
@@ -32,9 +32,7 @@ pub(crate) fn check_reach(
     context: Context,
     inflow: Inflow,
 ) -> Result<(), Refusal>
-    ensures { MatchResult result
-        (λ _. (a : Reading Command) → first_failing (each_within (number rule) place (masked context.variables context.conditions) (masked inflow.variables inflow.conditions)) a ≡ a)
-        (λ e. (a : Reading Command) → first_failing (each_within (number rule) place (masked context.variables context.conditions) (masked inflow.variables inflow.conditions)) a ≡ refused e) }
+    ensures { Checked {X = Command} (first_failing (each_within (number rule) place (masked context.variables context.conditions) (masked inflow.variables inflow.conditions))) result }
 {
     if let Some(variable) = first_misfit(context.variables, inflow.variables) {
         return Err(rule.at(place, variable as u32));

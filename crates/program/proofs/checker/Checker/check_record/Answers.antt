@@ -2,7 +2,7 @@ use Rattle.std.proofs.Common.{sym, refl, ap, ◌∙◌}
 use Rattle.program.proofs.Exits.{at_err}
 use Rattle.program.specs.Contexts.{with_variable}
 use Rattle.program.proofs.RecordSteps as steps
-use Rattle.program.proofs.checks.check_record.Goals as goal
+use Rattle.program.proofs.checker.Checker.check_record.Goals as goal
 
 pub returns-in_err-target-in-Set : goal.returns-in_err-target-in-Set
 returns-in_err-target-in-Set c =
@@ -10,10 +10,10 @@ returns-in_err-target-in-Set c =
 
 pub returns-in_err-check_reach-in-Set : goal.returns-in_err-check_reach-in-Set
 returns-in_err-check_reach-in-Set c =
-    at_err _ _ _ _ c.from_residual-in_err-check_reach-in-Set.ensures.1 (steps.reach_refused _ _ _ _ _ _ (steps.setting _ _ _ _ _ _ (steps.found c.in-Set.is c.kind_at.ensures c.in_ok-kind.ensures.ok_part)) c.in_ok-target-in-Set.target c.args.context c.in_ok-target-in-Set.ensures refl _ c.in_err-check_reach-in-Set.ensures)
+    at_err _ _ _ _ c.from_residual-in_err-check_reach-in-Set.ensures.1 (steps.reach_refused _ _ _ _ _ _ (steps.setting _ _ _ _ _ _ (steps.found c.in-Set.is c.kind_at.ensures c.in_ok-kind.ensures.ok_part)) c.in_ok-target-in-Set.target c.args.self.now.context c.in_ok-target-in-Set.ensures refl _ c.in_err-check_reach-in-Set.ensures)
 
 pub returns-in_ok-check_reach-in-Set : goal.returns-in_ok-check_reach-in-Set
-returns-in_ok-check_reach-in-Set c = steps.passed_as _ _ _ _ _ _ c.in-Set.is (steps.reach_passed _ _ _ _ _ _ (steps.setting _ _ _ _ _ _ (steps.found c.in-Set.is c.kind_at.ensures c.in_ok-kind.ensures.ok_part)) c.in_ok-target-in-Set.target c.args.context c.in_ok-target-in-Set.ensures refl c.in_ok-check_reach-in-Set.ensures)
+returns-in_ok-check_reach-in-Set c = steps.passed_as _ _ _ _ _ _ c.in-Set.is (steps.reach_passed _ _ _ _ _ _ (steps.setting _ _ _ _ _ _ (steps.found c.in-Set.is c.kind_at.ensures c.in_ok-kind.ensures.ok_part)) c.in_ok-target-in-Set.target c.args.self.now.context c.in_ok-target-in-Set.ensures refl c.in_ok-check_reach-in-Set.ensures)
 
 pub returns-in_err-target-in-Sign : goal.returns-in_err-target-in-Sign
 returns-in_err-target-in-Sign c =
@@ -43,10 +43,10 @@ returns-in_err-condition-in-Raise c =
 
 pub returns-in_err-check_reach-in-Raise : goal.returns-in_err-check_reach-in-Raise
 returns-in_err-check_reach-in-Raise c =
-    at_err _ _ _ _ c.from_residual-in_err-check_reach-in-Raise.ensures.1 (steps.reach_refused _ _ _ _ _ _ (steps.raising _ _ _ _ _ _ (steps.found c.in-Raise.is c.kind_at.ensures c.in_ok-kind.ensures.ok_part)) c.in_ok-condition-in-Raise.condition c.args.context c.in_ok-condition-in-Raise.ensures refl _ c.in_err-check_reach-in-Raise.ensures)
+    at_err _ _ _ _ c.from_residual-in_err-check_reach-in-Raise.ensures.1 (steps.reach_refused _ _ _ _ _ _ (steps.raising _ _ _ _ _ _ (steps.found c.in-Raise.is c.kind_at.ensures c.in_ok-kind.ensures.ok_part)) c.in_ok-condition-in-Raise.condition c.args.self.now.context c.in_ok-condition-in-Raise.ensures refl _ c.in_err-check_reach-in-Raise.ensures)
 
 pub returns-in_ok-check_reach-in-Raise : goal.returns-in_ok-check_reach-in-Raise
-returns-in_ok-check_reach-in-Raise c = steps.passed_as _ _ _ _ _ _ c.in-Raise.is (steps.reach_passed _ _ _ _ _ _ (steps.raising _ _ _ _ _ _ (steps.found c.in-Raise.is c.kind_at.ensures c.in_ok-kind.ensures.ok_part)) c.in_ok-condition-in-Raise.condition c.args.context c.in_ok-condition-in-Raise.ensures refl c.in_ok-check_reach-in-Raise.ensures)
+returns-in_ok-check_reach-in-Raise c = steps.passed_as _ _ _ _ _ _ c.in-Raise.is (steps.reach_passed _ _ _ _ _ _ (steps.raising _ _ _ _ _ _ (steps.found c.in-Raise.is c.kind_at.ensures c.in_ok-kind.ensures.ok_part)) c.in_ok-condition-in-Raise.condition c.args.self.now.context c.in_ok-condition-in-Raise.ensures refl c.in_ok-check_reach-in-Raise.ensures)
 
 pub returns-in_err-check_variable_test-in-VariableTest : goal.returns-in_err-check_variable_test-in-VariableTest
 returns-in_err-check_variable_test-in-VariableTest c =
