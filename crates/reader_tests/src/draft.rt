@@ -17,12 +17,7 @@ impl Draft {
     }
 
     pub(crate) fn put(&mut self, letter: u8, a: u8, b: u8, n: u32) -> Result<(), AllocError> {
-        self.fields(letter, [a, b, 0], n)
-    }
-
-    pub(crate) fn fields(&mut self, letter: u8, abc: [u8; 3], n: u32) -> Result<(), AllocError> {
-        self.bytes.push(letter)?;
-        self.bytes.extend_from_slice(&abc)?;
+        self.bytes.extend_from_slice(&[letter, a, b, 0])?;
         self.bytes.extend_from_slice(&n.to_be_bytes())
     }
 
@@ -53,11 +48,6 @@ pub(crate) fn refused<T: Drop>(
     answer: Result<T, Refusal>,
     expected: Refusal,
 ) -> Result<(), Fail> {
-    match answer {
-        Ok(_) => Err(Fail::new("accepted")),
-        Err(refusal) => {
-            assert_eq!(rt; refusal, expected);
-            Ok(())
-        },
-    }
+    assert_eq!(rt; answer.err(), Some(expected));
+    Ok(())
 }

@@ -1,4 +1,4 @@
-use crate::draft::Draft;
+use crate::draft::{self, Draft};
 use lattice::Chain;
 use records::{Refusal, Rule};
 use siteunit::SiteBox;
@@ -91,8 +91,7 @@ fn refused(
     program: &[[u8; 8]],
     refusal: Refusal,
 ) -> Result<(), Fail> {
-    assert_eq!(rt; site(sheet)?.load(program.as_flattened()), Err(refusal));
-    Ok(())
+    draft::refused(rt, site(sheet)?.load(program.as_flattened()), refusal)
 }
 
 #[test]

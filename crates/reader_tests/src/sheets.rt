@@ -1,9 +1,8 @@
-use crate::draft::{self, Draft};
+use crate::draft::{Draft, refused};
 use lattice::{Chain, ReaderSets};
-use records::Refusal;
+use records::{Refusal, Rule};
 use sheet::{SheetTable, read_sheet};
 use std::alloc::AllocError;
-use std::process::Abort;
 use std::test::Fail;
 
 impl Draft {
@@ -22,21 +21,8 @@ impl Draft {
 }
 
 fn accepted(draft: &Draft) -> Result<(), Fail> {
-    match draft.sheet() {
-        Ok(_) => Ok(()),
-        Err(_) => Err(Fail::new("refused")),
-    }
-}
-
-// By number: an answer's line prints it.
-fn refused(
-    rt: &impl Abort,
-    draft: &Draft,
-    number: u8,
-    place: usize,
-    detail: u32,
-) -> Result<(), Fail> {
-    draft::refused(rt, draft.sheet(), Refusal::new(number, place, detail))
+    draft.sheet()?;
+    Ok(())
 }
 
 #[test]
@@ -65,87 +51,87 @@ fn the_length_is_whole_records_and_at_most_4096(rt: HostRuntime) -> Result<(), F
     for _ in 0..512 {
         long.leaf(0)?;
     }
-    refused(&rt, &long, 3, 0, 0)?;
+    refused(&rt, long.sheet(), Rule::SheetLetter.at(0, 0))?;
     long.leaf(0)?;
-    refused(&rt, &long, 2, 0, 0)?;
+    refused(&rt, long.sheet(), Rule::SheetLength.at(0, 0))?;
     let mut odd = Draft::new(rt.alloc());
     odd.bytes.push(b'C')?;
-    refused(&rt, &odd, 2, 0, 0)
+    refused(&rt, odd.sheet(), Rule::SheetLength.at(0, 0))
 }
 
 #[test]
 fn letters_stand_in_their_order(rt: HostRuntime) -> Result<(), Fail> {
     let mut draft = Draft::new(rt.alloc());
     draft.variable(0, 0)?;
-    refused(&rt, &draft, 3, 1, 0)?;
+    refused(&rt, draft.sheet(), Rule::SheetLetter.at(1, 0))?;
     draft.leaf(0)?;
     accepted(&draft)?;
     draft.condition(0, 0)?;
-    refused(&rt, &draft, 3, 2, 0)?;
+    refused(&rt, draft.sheet(), Rule::SheetLetter.at(2, 0))?;
     let mut permit = Draft::new(rt.alloc());
     permit.permit(0, 0)?;
     permit.leaf(0)?;
-    refused(&rt, &permit, 3, 2, 0)?;
+    refused(&rt, permit.sheet(), Rule::SheetLetter.at(2, 0))?;
     permit.leaf(0)?;
     accepted(&permit)?;
     permit.variable(0, 0)?;
-    refused(&rt, &permit, 3, 3, 0)?;
+    refused(&rt, permit.sheet(), Rule::SheetLetter.at(3, 0))?;
     let mut inside = Draft::new(rt.alloc());
     inside.variable(0, 0)?;
     inside.variable(1, 0)?;
-    refused(&rt, &inside, 3, 1, 0)?;
+    refused(&rt, inside.sheet(), Rule::SheetLetter.at(1, 0))?;
     let mut stray = Draft::new(rt.alloc());
     stray.leaf(0)?;
-    refused(&rt, &stray, 3, 0, 0)
+    refused(&rt, stray.sheet(), Rule::SheetLetter.at(0, 0))
 }
 
 #[test]
 fn unnamed_fields_are_zero(rt: HostRuntime) -> Result<(), Fail> {
     let mut draft = Draft::new(rt.alloc());
     draft.put(b'C', 0, 1, 0)?;
-    refused(&rt, &draft, 4, 0, 0)?;
+    refused(&rt, draft.sheet(), Rule::SheetFields.at(0, 0))?;
     let mut variable = Draft::new(rt.alloc());
     variable.variable(0, 2)?;
-    refused(&rt, &variable, 4, 0, 0)?;
+    refused(&rt, variable.sheet(), Rule::SheetFields.at(0, 0))?;
     let mut leaf = Draft::new(rt.alloc());
     leaf.variable(0, 1)?;
     leaf.put(b'L', 1, 0, 0)?;
-    refused(&rt, &leaf, 4, 1, 0)?;
+    refused(&rt, leaf.sheet(), Rule::SheetFields.at(1, 0))?;
     let mut node = Draft::new(rt.alloc());
     node.condition(0, 0)?;
     node.variable(0, 1)?;
     node.put(b'E', 0, 0, 7)?;
-    refused(&rt, &node, 4, 2, 0)
+    refused(&rt, node.sheet(), Rule::SheetFields.at(2, 0))
 }
 
 #[test]
 fn numbers_count_from_zero(rt: HostRuntime) -> Result<(), Fail> {
     let mut draft = Draft::new(rt.alloc());
     draft.condition(1, 0)?;
-    refused(&rt, &draft, 5, 0, 0)?;
+    refused(&rt, draft.sheet(), Rule::NextNumber.at(0, 0))?;
     let mut many = Draft::new(rt.alloc());
     for number in 0..17 {
         many.condition(number, 0)?;
     }
-    refused(&rt, &many, 5, 16, 0)?;
+    refused(&rt, many.sheet(), Rule::NextNumber.at(16, 0))?;
     let mut permit = Draft::new(rt.alloc());
     permit.permit(1, 0)?;
-    refused(&rt, &permit, 5, 0, 0)
+    refused(&rt, permit.sheet(), Rule::NextNumber.at(0, 0))
 }
 
 #[test]
 fn levels_are_known(rt: HostRuntime) -> Result<(), Fail> {
     let mut draft = Draft::new(rt.alloc());
     draft.condition(0, 4)?;
-    refused(&rt, &draft, 6, 0, 4)?;
+    refused(&rt, draft.sheet(), Rule::KnownLevel.at(0, 4))?;
     let mut leaf = Draft::new(rt.alloc());
     leaf.variable(0, 0)?;
     leaf.leaf(70000)?;
-    refused(&rt, &leaf, 6, 1, 70000)?;
-    draft::refused(
+    refused(&rt, leaf.sheet(), Rule::KnownLevel.at(1, 70000))?;
+    refused(
         &rt,
         read_sheet(&ReaderSets, leaf.bytes.as_slice()),
-        Refusal::new(6, 1, 70000),
+        Rule::KnownLevel.at(1, 70000),
     )
 }
 
@@ -155,14 +141,14 @@ fn conditions_are_declared(rt: HostRuntime) -> Result<(), Fail> {
     draft.condition(0, 0)?;
     draft.variable(0, 0)?;
     draft.erase(1)?;
-    refused(&rt, &draft, 7, 2, 1)?;
+    refused(&rt, draft.sheet(), Rule::DeclaredCondition.at(2, 1))?;
     let mut permit = Draft::new(rt.alloc());
     permit.condition(0, 0)?;
     permit.permit(0, 0x8000_0005)?;
-    refused(&rt, &permit, 7, 1, 2)?;
+    refused(&rt, permit.sheet(), Rule::DeclaredCondition.at(1, 2))?;
     let mut high = Draft::new(rt.alloc());
     high.permit(0, 0x8000_0000)?;
-    refused(&rt, &high, 7, 0, 31)
+    refused(&rt, high.sheet(), Rule::DeclaredCondition.at(0, 31))
 }
 
 // A leaf may stand at depth 4; an erasing node may too, but no leaf below it.
@@ -184,9 +170,9 @@ fn trees_are_at_most_four_deep(rt: HostRuntime) -> Result<(), Fail> {
     for _ in 0..4 {
         deep.erase(0)?;
     }
-    refused(&rt, &deep, 3, 6, 0)?;
+    refused(&rt, deep.sheet(), Rule::SheetLetter.at(6, 0))?;
     deep.leaf(0)?;
-    refused(&rt, &deep, 8, 6, 0)
+    refused(&rt, deep.sheet(), Rule::TreeDepth.at(6, 0))
 }
 
 #[test]
@@ -203,7 +189,7 @@ fn wipers_are_below_what_they_wipe(rt: HostRuntime) -> Result<(), Fail> {
     draft.leaf(1)?;
     draft.leaf(3)?;
     draft.leaf(3)?;
-    refused(&rt, &draft, 9, 5, 0)?;
+    refused(&rt, draft.sheet(), Rule::WipersBelow.at(5, 0))?;
     let mut later = Draft::new(rt.alloc());
     later.condition(0, 3)?;
     later.condition(1, 0)?;

@@ -4,10 +4,11 @@
 #[cfg(test)]
 mod tests {
     use lattice::{Chain, ReaderSets};
+    use records::Rule;
     use session::run;
     use std::process::Abort;
     use store::{DenseStore, SparseStore, Store};
-    use stream::{Answer, Call};
+    use stream::{Answer, Call, IMAGE_ROOM, ImageBytes};
 
     // Condition 0, at level 0, wipes variables 0 and 2, at level 1; variable 1 is at level 0. Variable 0 may be fed.
     const SHEET: &[u8] =
@@ -16,19 +17,8 @@ mod tests {
     // Variable 2 becomes twice variable 0.
     const PROGRAM: &[u8] = b"+\x02\0\0\0\0\0\0";
 
-    // An answer as one number.
-    fn number(answer: Answer) -> i32 {
-        match answer {
-            Answer::Number(n) => n,
-            Answer::Image(image) => 10000 + image.size as i32,
-            Answer::Done(_) => 2000,
-            Answer::Spent(_) => 3000,
-            Answer::Refused(refusal) => 4000 + i32::from(refusal.number),
-        }
-    }
-
-    // The whole of what is answered, with the size that an image has.
-    fn session<S: Store>(rt: &impl Abort, size: i32) {
+    // The whole of what is answered, with the image.
+    fn session<S: Store>(rt: &impl Abort, image: ImageBytes) {
         let calls = [
             Call::Look {
                 level: 1,
@@ -66,26 +56,49 @@ mod tests {
             },
             Call::Image { level: 0 },
         ];
-        let expected = [4010, 3, 1, 0, 2000, 14, size, 0, 0, 4020, 1, 0, 0, 4025];
+        let expected = [
+            Answer::Refused(Rule::NeedsSheet.into()),
+            Answer::Number(3),
+            Answer::Number(1),
+            Answer::Number(0),
+            Answer::Done(0),
+            Answer::Number(14),
+            Answer::Image(image),
+            Answer::Number(0),
+            Answer::Number(0),
+            Answer::Refused(Rule::NotWiped.into()),
+            Answer::Number(1),
+            Answer::Number(0),
+            Answer::Number(0),
+            Answer::Refused(Rule::MayKnow.into()),
+        ];
         let mut answers = [Answer::Number(-1); 16];
         assert_eq!(rt; run::<Chain, S>(Chain { top: 3 }, &calls, &mut answers), 14);
         for (answer, expected) in answers.iter().zip(&expected) {
-            assert_eq!(rt; number(*answer), *expected);
+            assert_eq!(rt; *answer, *expected);
         }
-        assert_eq!(rt; number(answers[14]), -1, "the rest of the buffer");
+        assert_eq!(rt; answers[14], Answer::Number(-1), "the rest of the buffer");
         let mut few = [Answer::Number(-1); 2];
         assert_eq!(rt; run::<Chain, S>(Chain { top: 3 }, &calls, &mut few), 2);
-        assert_eq!(rt; number(few[1]), 3);
+        assert_eq!(rt; few[1], Answer::Number(3));
     }
 
     #[test]
     fn a_session_on_a_dense_store(rt: HostRuntime) {
-        session::<DenseStore>(&rt, 10256);
+        let mut buffer = [0; IMAGE_ROOM];
+        buffer[3] = 7;
+        buffer[11] = 14;
+        session::<DenseStore>(&rt, ImageBytes { size: 256, buffer });
     }
 
     #[test]
     fn a_session_on_a_sparse_store(rt: HostRuntime) {
-        session::<SparseStore>(&rt, 10320);
+        let mut entries = [[255, 0, 0, 0, 0]; 64];
+        entries[0] = [0, 0, 0, 0, 7];
+        entries[1] = [2, 0, 0, 0, 14];
+        let mut buffer = [0; IMAGE_ROOM];
+        buffer.copy_from_slice(entries.as_flattened());
+        session::<SparseStore>(&rt, ImageBytes { size: 320, buffer });
     }
 
     #[test]
@@ -97,10 +110,10 @@ mod tests {
             2
         );
         assert_eq!(rt;
-            number(answers[0]),
-            4009,
+            answers[0],
+            Answer::Refused(Rule::WipersBelow.at(1, 0)),
             "level 0 has no readers, so it is the highest"
         );
-        assert_eq!(rt; number(answers[1]), 4010);
+        assert_eq!(rt; answers[1], Answer::Refused(Rule::NeedsSheet.into()));
     }
 }

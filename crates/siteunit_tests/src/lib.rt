@@ -69,103 +69,103 @@ mod tests {
         assert_eq!(rt; res.err(), Some(rule.into()));
     }
 
-    fn before_a_sheet<L: Lattice, S: Store>(rt: &impl Abort, unit: &mut SiteBox<L, S>) {
-        refused(rt, unit.feed(0, 7), Rule::NeedsSheet);
-        refused(rt, unit.raise(0), Rule::NeedsSheet);
-        refused(rt, unit.lower(0), Rule::NeedsSheet);
-        refused(rt, unit.look(0, 0), Rule::NeedsSheet);
-        refused(rt, unit.ask(0, 0), Rule::NeedsSheet);
-        refused(rt, unit.load(&[]), Rule::NeedsSheet);
-        refused(rt, unit.pass(1), Rule::NeedsSheet);
-        refused(rt, unit.image(0, &mut [0]), Rule::NeedsSheet);
-        refused(rt, unit.sheet(&[0]), Rule::SheetLength);
+    fn before_a_sheet<L: Lattice, S: Store>(rt: &impl Abort, site: &mut SiteBox<L, S>) {
+        refused(rt, site.feed(0, 7), Rule::NeedsSheet);
+        refused(rt, site.raise(0), Rule::NeedsSheet);
+        refused(rt, site.lower(0), Rule::NeedsSheet);
+        refused(rt, site.look(0, 0), Rule::NeedsSheet);
+        refused(rt, site.ask(0, 0), Rule::NeedsSheet);
+        refused(rt, site.load(&[]), Rule::NeedsSheet);
+        refused(rt, site.pass(1), Rule::NeedsSheet);
+        refused(rt, site.image(0, &mut [0]), Rule::NeedsSheet);
+        refused(rt, site.sheet(&[0]), Rule::SheetLength);
     }
 
     fn refusals<L: Lattice, S: Store>(
         rt: &impl Abort,
-        unit: &mut SiteBox<L, S>,
+        site: &mut SiteBox<L, S>,
         Levels { low, mid }: Levels,
     ) {
-        refused(rt, unit.sheet(&[]), Rule::NoSheetYet);
-        refused(rt, unit.feed(3, 7), Rule::IsVariable);
-        refused(rt, unit.feed(255, 7), Rule::IsVariable);
-        refused(rt, unit.feed(2, 7), Rule::MayBeFed);
-        refused(rt, unit.raise(2), Rule::IsCondition);
-        refused(rt, unit.lower(255), Rule::IsCondition);
-        refused(rt, unit.look(70_000, 0), Rule::IsLevel);
-        refused(rt, unit.look(mid, 3), Rule::IsVariable);
-        refused(rt, unit.look(low, 0), Rule::MayKnow);
-        refused(rt, unit.ask(70_000, 0), Rule::IsLevel);
-        refused(rt, unit.ask(low, 2), Rule::IsCondition);
-        refused(rt, unit.ask(mid, 1), Rule::MayKnow);
-        refused(rt, unit.image(70_000, &mut [0]), Rule::IsLevel);
-        refused(rt, unit.image(low, &mut [0]), Rule::MayKnow);
-        refused(rt, unit.image(mid, &mut [0]), Rule::RoomForImage);
-        refused(rt, unit.load(&[0]), Rule::ProgramLength);
-        refused(rt, unit.load(&[0; 8]), Rule::ProgramLetter);
+        refused(rt, site.sheet(&[]), Rule::NoSheetYet);
+        refused(rt, site.feed(3, 7), Rule::IsVariable);
+        refused(rt, site.feed(255, 7), Rule::IsVariable);
+        refused(rt, site.feed(2, 7), Rule::MayBeFed);
+        refused(rt, site.raise(2), Rule::IsCondition);
+        refused(rt, site.lower(255), Rule::IsCondition);
+        refused(rt, site.look(70_000, 0), Rule::IsLevel);
+        refused(rt, site.look(mid, 3), Rule::IsVariable);
+        refused(rt, site.look(low, 0), Rule::MayKnow);
+        refused(rt, site.ask(70_000, 0), Rule::IsLevel);
+        refused(rt, site.ask(low, 2), Rule::IsCondition);
+        refused(rt, site.ask(mid, 1), Rule::MayKnow);
+        refused(rt, site.image(70_000, &mut [0]), Rule::IsLevel);
+        refused(rt, site.image(low, &mut [0]), Rule::MayKnow);
+        refused(rt, site.image(mid, &mut [0]), Rule::RoomForImage);
+        refused(rt, site.load(&[0]), Rule::ProgramLength);
+        refused(rt, site.load(&[0; 8]), Rule::ProgramLetter);
     }
 
     fn wiping<L: Lattice, S: Store>(
         rt: &impl Abort,
-        unit: &mut SiteBox<L, S>,
+        site: &mut SiteBox<L, S>,
         Levels { low, mid }: Levels,
     ) {
-        assert_eq!(rt; unit.look(mid, 0), Ok(0));
-        assert_eq!(rt; unit.feed(0, i32::MIN), Ok(()));
-        assert_eq!(rt; unit.feed(1, -1), Ok(()));
-        assert_eq!(rt; unit.look(mid, 0), Ok(i32::MIN));
-        assert_eq!(rt; unit.raise(0), Ok(()));
-        assert_eq!(rt; unit.look(mid, 0), Ok(0));
-        assert_eq!(rt; unit.look(low, 1), Ok(-1));
-        refused(rt, unit.feed(0, 9), Rule::NotWiped);
-        assert_eq!(rt; unit.feed(1, 5), Ok(()));
-        assert_eq!(rt; unit.ask(low, 0), Ok(true));
-        assert_eq!(rt; unit.raise(1), Ok(()));
-        assert_eq!(rt; unit.lower(0), Ok(()));
-        assert_eq!(rt; unit.ask(low, 0), Ok(false));
-        assert_eq!(rt; unit.look(mid, 0), Ok(0));
-        assert_eq!(rt; unit.feed(0, 9), Ok(()));
-        assert_eq!(rt; unit.look(mid, 0), Ok(9));
-        assert_eq!(rt; unit.look(low, 1), Ok(5));
+        assert_eq!(rt; site.look(mid, 0), Ok(0));
+        assert_eq!(rt; site.feed(0, i32::MIN), Ok(()));
+        assert_eq!(rt; site.feed(1, -1), Ok(()));
+        assert_eq!(rt; site.look(mid, 0), Ok(i32::MIN));
+        assert_eq!(rt; site.raise(0), Ok(()));
+        assert_eq!(rt; site.look(mid, 0), Ok(0));
+        assert_eq!(rt; site.look(low, 1), Ok(-1));
+        refused(rt, site.feed(0, 9), Rule::NotWiped);
+        assert_eq!(rt; site.feed(1, 5), Ok(()));
+        assert_eq!(rt; site.ask(low, 0), Ok(true));
+        assert_eq!(rt; site.raise(1), Ok(()));
+        assert_eq!(rt; site.lower(0), Ok(()));
+        assert_eq!(rt; site.ask(low, 0), Ok(false));
+        assert_eq!(rt; site.look(mid, 0), Ok(0));
+        assert_eq!(rt; site.feed(0, 9), Ok(()));
+        assert_eq!(rt; site.look(mid, 0), Ok(9));
+        assert_eq!(rt; site.look(low, 1), Ok(5));
     }
 
     // Variable 1 holds 5 at the start.
     fn programs<L: Lattice, S: Store>(
         rt: &impl Abort,
-        unit: &mut SiteBox<L, S>,
+        site: &mut SiteBox<L, S>,
         Levels { low, mid }: Levels,
     ) {
-        refused(rt, unit.pass(1), Rule::NeedsProgram);
-        assert_eq!(rt; unit.load(&PROGRAM), Ok(4));
-        assert_eq!(rt; unit.pass(0), Ok(Ending::Spent { used: 0 }));
-        assert_eq!(rt; unit.look(mid, 2), Ok(7));
-        assert_eq!(rt; unit.look(low, 1), Ok(5));
-        assert_eq!(rt; unit.pass(9), Ok(Ending::Done { used: 1 }));
-        assert_eq!(rt; unit.look(low, 1), Ok(0));
-        assert_eq!(rt; unit.pass(9), Ok(Ending::Done { used: 0 }));
-        refused(rt, unit.load(&[0; 8]), Rule::ProgramLetter);
-        assert_eq!(rt; unit.raise(0), Ok(()));
-        assert_eq!(rt; unit.pass(9), Ok(Ending::Done { used: 0 }));
-        assert_eq!(rt; unit.look(mid, 2), Ok(0));
-        assert_eq!(rt; unit.lower(0), Ok(()));
-        assert_eq!(rt; unit.pass(9), Ok(Ending::Done { used: 0 }));
-        assert_eq!(rt; unit.look(mid, 2), Ok(7));
-        assert_eq!(rt; unit.load(&[]), Ok(0));
-        assert_eq!(rt; unit.pass(0), Ok(Ending::Done { used: 0 }));
+        refused(rt, site.pass(1), Rule::NeedsProgram);
+        assert_eq!(rt; site.load(&PROGRAM), Ok(4));
+        assert_eq!(rt; site.pass(0), Ok(Ending::Spent { used: 0 }));
+        assert_eq!(rt; site.look(mid, 2), Ok(7));
+        assert_eq!(rt; site.look(low, 1), Ok(5));
+        assert_eq!(rt; site.pass(9), Ok(Ending::Done { used: 1 }));
+        assert_eq!(rt; site.look(low, 1), Ok(0));
+        assert_eq!(rt; site.pass(9), Ok(Ending::Done { used: 0 }));
+        refused(rt, site.load(&[0; 8]), Rule::ProgramLetter);
+        assert_eq!(rt; site.raise(0), Ok(()));
+        assert_eq!(rt; site.pass(9), Ok(Ending::Done { used: 0 }));
+        assert_eq!(rt; site.look(mid, 2), Ok(0));
+        assert_eq!(rt; site.lower(0), Ok(()));
+        assert_eq!(rt; site.pass(9), Ok(Ending::Done { used: 0 }));
+        assert_eq!(rt; site.look(mid, 2), Ok(7));
+        assert_eq!(rt; site.load(&[]), Ok(0));
+        assert_eq!(rt; site.pass(0), Ok(Ending::Done { used: 0 }));
     }
 
     // Variable 2 holds 7. What follows the image in the buffer stays.
     fn images<L: Lattice, S: Store>(
         rt: &impl Abort,
-        unit: &SiteBox<L, S>,
+        site: &SiteBox<L, S>,
         level: u32,
         Image { size, place }: Image,
     ) {
         let mut short = [170; 255];
-        refused(rt, unit.image(level, &mut short), Rule::RoomForImage);
+        refused(rt, site.image(level, &mut short), Rule::RoomForImage);
         assert_eq!(rt; short[0], 170);
         let mut buffer = [170; 400];
-        assert_eq!(rt; unit.image(level, &mut buffer), Ok(size));
+        assert_eq!(rt; site.image(level, &mut buffer), Ok(size));
         for (at, byte) in [
             (place, 7),
             (size.saturating_sub(1), 0),
@@ -183,15 +183,15 @@ mod tests {
         levels: Levels,
         image: Image,
     ) {
-        let mut unit: SiteBox<L, S> = SiteBox::new(lattice);
-        before_a_sheet(rt, &mut unit);
-        assert_eq!(rt; unit.sheet(sheet), Ok(3));
-        refusals(rt, &mut unit, levels);
-        wiping(rt, &mut unit, levels);
-        refusals(rt, &mut unit, levels);
-        programs(rt, &mut unit, levels);
-        refusals(rt, &mut unit, levels);
-        images(rt, &unit, levels.mid, image);
+        let mut site: SiteBox<L, S> = SiteBox::new(lattice);
+        before_a_sheet(rt, &mut site);
+        assert_eq!(rt; site.sheet(sheet), Ok(3));
+        refusals(rt, &mut site, levels);
+        wiping(rt, &mut site, levels);
+        refusals(rt, &mut site, levels);
+        programs(rt, &mut site, levels);
+        refusals(rt, &mut site, levels);
+        images(rt, &site, levels.mid, image);
     }
 
     const IN_DENSE: Image = Image {

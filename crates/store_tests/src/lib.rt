@@ -78,29 +78,33 @@ mod tests {
         image
     }
 
-    // A test for each store: a closure that gives an array of either size has no proof yet.
-    #[test]
-    fn dense_after_many_puts(rt: HostRuntime) {
-        let mut store = DenseStore::new();
+    fn after_many_puts<S: Store, F: Fn(&S, &[i32; 64])>(rt: &impl Abort, check: F)
+        requires { F.IsAlwaysCallable check }
+    {
+        let mut store = S::new();
         let mut table = [0; 64];
-        check_image(&rt, &store, dense_image(&table).as_flattened());
+        check(&store, &table);
         for round in 0..40 {
-            fill(&rt, &mut store, &mut table, round, 25);
-            check_values(&rt, &store, &table);
-            check_image(&rt, &store, dense_image(&table).as_flattened());
+            fill(rt, &mut store, &mut table, round, 25);
+            check_values(rt, &store, &table);
+            check(&store, &table);
         }
     }
 
     #[test]
+    fn dense_after_many_puts(rt: HostRuntime) {
+        after_many_puts::<DenseStore, _>(
+            &rt,
+            |store, table| check_image(&rt, store, dense_image(table).as_flattened()),
+        );
+    }
+
+    #[test]
     fn sparse_after_many_puts(rt: HostRuntime) {
-        let mut store = SparseStore::new();
-        let mut table = [0; 64];
-        check_image(&rt, &store, sparse_image(&table).as_flattened());
-        for round in 0..40 {
-            fill(&rt, &mut store, &mut table, round, 25);
-            check_values(&rt, &store, &table);
-            check_image(&rt, &store, sparse_image(&table).as_flattened());
-        }
+        after_many_puts::<SparseStore, _>(
+            &rt,
+            |store, table| check_image(&rt, store, sparse_image(table).as_flattened()),
+        );
     }
 
     // Every place used, from the last to the first, and then wiped from the first to the last.

@@ -6,7 +6,7 @@ use crate::image::ImageBytes;
 use records::Refusal;
 
 /// What a call answers: a number, an image, how a pass ended and the turns that it used, or a refusal.
-#[derive(Clone, Copy)]
+#[derive(Clone, Copy, Debug, PartialEq)]
 pub enum Answer {
     Number(i32),
     Image(ImageBytes),

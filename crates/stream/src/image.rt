@@ -6,7 +6,7 @@ pub const IMAGE_ROOM: usize = 320;
 
 /// The bytes of an image, at the front of a buffer.
 // A size beside a buffer: no heap in the box, so the buffer has fixed room.
-#[derive(Clone, Copy)]
+#[derive(Clone, Copy, Debug, PartialEq)]
 pub struct ImageBytes {
     pub size: usize,
     pub buffer: [u8; IMAGE_ROOM],

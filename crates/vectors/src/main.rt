@@ -3,6 +3,7 @@
 
 use bundle::{note, play, split, times};
 use decoder::decode;
+use records::Rule;
 use std::io;
 use std::io::Read;
 use stream::{Answer, Call, Transcript};
@@ -12,7 +13,7 @@ fn print_summary(rt: &impl Print, streams: usize, outcomes: &[Option<u8>]) -> io
     let calls = outcomes.len();
     println!(rt; "streams {streams}")?;
     println!(rt; "calls {calls}")?;
-    for rule in 1..27u8 {
+    for rule in 1..=Rule::RoomForImage as u8 {
         let refused = times(outcomes, Some(rule));
         println!(rt; "rule {rule} {refused}")?;
     }
