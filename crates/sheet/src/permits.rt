@@ -1,10 +1,9 @@
 // Declassification permits with their trees.
-ghost use Rattle.std.specs.Prelude.{◌≡◌, ◌≤◌, length, IfOk, MatchResult};
-ghost use Rattle.records.specs.Records.{records};
+ghost use Rattle.std.specs.Prelude.{◌≡◌, IfOk, MatchResult};
 ghost use Rattle.records.specs.Rules.{Reading, refused, first as first_failing};
 ghost use Rattle.sheet.specs.Sheet.{Sheet};
 ghost use Rattle.sheet.specs.Checks.{mask_rules};
-ghost use Rattle.sheet.specs.Reading.{ItemRead, ItemRefused};
+ghost use Rattle.sheet.specs.Forward.{Forward, ItemAnswered};
 
 use crate::placed::Placed;
 use crate::read::SheetReader;
@@ -32,10 +31,8 @@ impl<'l, L: Lattice> SheetReader<'l, L> {
     // Reads a permit with its two trees into the table.
     pub(crate) fn read_permit<'a>(&mut self, item: Placed<'a>) -> Result<Cursor<'a>, Refusal>
         ensures same { self.new.lattice ≡ self.old.lattice }
-        ensures forward { IfOk result (λ p. length p.left.now ≤ length item.entry.behind.left.now) }
-        ensures answer { item.entry.record.letter ≡ 82 → MatchResult result
-            (λ p. ItemRead (L.Lattice.lattice self.old.lattice.now) self.old.table self.new.table item.entry.place item.entry.record (records item.entry.behind.left.now) p.place (records p.left.now))
-            (λ e. ItemRefused (L.Lattice.lattice self.old.lattice.now) self.old.table item.entry.place item.entry.record (records item.entry.behind.left.now) e) }
+        ensures forward { IfOk result (λ p. Forward item.entry p) }
+        ensures answer { item.entry.record.letter ≡ 82 → ItemAnswered (L.Lattice.lattice self.old.lattice.now) self.old.table self.new.table item.entry result }
     {
         let number = self.table.permits;
         let conditions = item.numbered(number, 8)?;
