@@ -1,6 +1,6 @@
 // Declassification permits with their trees.
 ghost use Rattle.std.specs.Prelude.{◌≡◌, IfOk};
-ghost use Rattle.records.specs.Rules.{Checked, first as first_failing};
+ghost use Rattle.records.specs.Rules.{Checked, first};
 ghost use Rattle.sheet.specs.Sheet.{Sheet};
 ghost use Rattle.sheet.specs.Checks.{mask_rules};
 ghost use Rattle.sheet.specs.Forward.{Forward, ItemAnswered};
@@ -14,7 +14,7 @@ use records::{Cursor, Refusal, Rule};
 
 // The conditions of a mask are declared.
 fn check_mask(mask: u32, conditions: usize, place: usize) -> Result<(), Refusal>
-    ensures { Checked {X = Sheet} (first_failing (mask_rules conditions mask place)) result }
+    ensures { Checked {X = Sheet} (first (mask_rules conditions mask place)) result }
 {
     let undeclared = (0..32u8).find(|&condition| {
         has(mask.into(), condition) && condition as usize >= conditions

@@ -30,9 +30,7 @@ impl<'l, L: Lattice> SheetReader<'l, L> {
         ensures { let r = leaf.entry.record in result ≡ judged (leaf_rules r leaf.entry.place depth ((L.Lattice.lattice self.now.lattice.now).known r.n)) r.n }
     {
         let record = leaf.record;
-        if record.a != 0 || record.b != 0 || record.c != 0 {
-            return Err(Rule::SheetFields.at(leaf.place, 0));
-        }
+        leaf.check_zero(record.a == 0 && record.b == 0 && record.c == 0)?;
         if !self.lattice.known(record.n) {
             return Err(Rule::KnownLevel.at(leaf.place, record.n));
         }
@@ -45,9 +43,7 @@ impl<'l, L: Lattice> SheetReader<'l, L> {
         ensures { let r = node.entry.record in result ≡ judged (node_rules r node.entry.place depth self.now.table.conditions) r.a }
     {
         let record = node.record;
-        if record.b != 0 || record.c != 0 || record.n != 0 {
-            return Err(Rule::SheetFields.at(node.place, 0));
-        }
+        node.check_zero(record.b == 0 && record.c == 0 && record.n == 0)?;
         if record.a as usize >= self.table.conditions {
             return Err(Rule::DeclaredCondition.at(node.place, record.a.into()));
         }

@@ -9,16 +9,14 @@ use crate::placed::Placed;
 use crate::read::SheetReader;
 use crate::rows::VariableRow;
 use lattice::Lattice;
-use records::{Cursor, Refusal, Rule};
+use records::{Cursor, Refusal};
 
 // Whether the outside may feed the variable.
 fn check_variable(item: Placed, count: usize) -> Result<bool, Refusal>
     ensures { result ≡ judged (variable_rules item.entry.record item.entry.place count) (item.entry.record.b == 1) }
 {
     let record = item.record;
-    if record.b > 1 || record.c != 0 || record.n != 0 {
-        return Err(Rule::SheetFields.at(item.place, 0));
-    }
+    item.check_zero(record.b <= 1 && record.c == 0 && record.n == 0)?;
     item.check_number(count, 64)?;
     Ok(record.b == 1)
 }
