@@ -38,7 +38,7 @@ impl<'l, L: Lattice> SheetReader<'l, L> {
         Ok(record.n)
     }
 
-    // An erasing node's condition.
+    // A wiping node's condition.
     fn check_node(&self, node: Placed, depth: u8) -> Result<u8, Refusal>
         ensures { let r = node.entry.record in result ≡ judged (node_rules r node.entry.place depth self.now.table.conditions) r.a }
     {
