@@ -151,7 +151,7 @@ fn conditions_are_declared(rt: HostRuntime) -> Result<(), Fail> {
     refused(&rt, high.sheet(), Rule::DeclaredCondition.at(0, 31))
 }
 
-// A leaf may stand at depth 4; an erasing node may too, but no leaf below it.
+// A leaf may stand at depth 4; a wiping node may too, but no leaf below it.
 #[test]
 fn trees_are_at_most_four_deep(rt: HostRuntime) -> Result<(), Fail> {
     let mut draft = Draft::new(rt.alloc());

@@ -10,7 +10,7 @@ use Rattle.sheet.specs.Rules.{rest_zero, conditions, variables, permits, leaves,
 abbrev pub leaf_rules : Record → ℕ → ℕ → Bool → List Rule
 leaf_rules r place depth known = rule 4 place 0 (rest_zero r leaves) ∷ rule 6 place r.n known ∷ rule 8 place 0 (nat_le depth 4) ∷ []
 
--- an erasing node at this depth, with so many conditions declared
+-- a wiping node at this depth, with so many conditions declared
 abbrev pub node_rules : Record → ℕ → ℕ → ℕ → List Rule
 node_rules r place depth declared = rule 4 place 0 (rest_zero r nodes) ∷ rule 7 place r.a (nat_lt r.a declared) ∷ rule 8 place 0 (nat_le depth 4) ∷ []
 

@@ -7,5 +7,6 @@ pub mod Table
 pub mod Letters
 pub mod Checks
 pub mod Reading
+pub mod Forward
 pub mod Reader
 pub mod Examples

@@ -1,9 +1,8 @@
 // The items of a sheet: conditions, variables, permits.
-ghost use Rattle.std.specs.Prelude.{◌≡◌, ◌≤◌, length, IfOk, MatchResult};
-ghost use Rattle.records.specs.Records.{records};
+ghost use Rattle.std.specs.Prelude.{◌≡◌, IfOk};
 ghost use Rattle.records.specs.Rules.{judged};
 ghost use Rattle.sheet.specs.Checks.{condition_rules};
-ghost use Rattle.sheet.specs.Reading.{ItemRead, ItemRefused};
+ghost use Rattle.sheet.specs.Forward.{Forward, ItemAnswered};
 
 use crate::letters::item_at;
 use crate::placed::Placed;
@@ -27,10 +26,8 @@ impl<'l, L: Lattice> SheetReader<'l, L> {
     // Reads an item with its trees into the table. Answers the cursor behind it.
     pub(crate) fn read_item<'a>(&mut self, item: Placed<'a>) -> Result<Cursor<'a>, Refusal>
         ensures same { self.new.lattice ≡ self.old.lattice }
-        ensures forward { IfOk result (λ p. length p.left.now ≤ length item.entry.behind.left.now) }
-        ensures answer { MatchResult result
-            (λ p. ItemRead (L.Lattice.lattice self.old.lattice.now) self.old.table self.new.table item.entry.place item.entry.record (records item.entry.behind.left.now) p.place (records p.left.now))
-            (λ e. ItemRefused (L.Lattice.lattice self.old.lattice.now) self.old.table item.entry.place item.entry.record (records item.entry.behind.left.now) e) }
+        ensures forward { IfOk result (λ p. Forward item.entry p) }
+        ensures answer { ItemAnswered (L.Lattice.lattice self.old.lattice.now) self.old.table self.new.table item.entry result }
     {
         match item_at(item.record.letter, self.table.section()) {
             Some(Item::Condition) => {

@@ -1,10 +1,9 @@
 // Declassification permits with their trees.
-ghost use Rattle.std.specs.Prelude.{◌≡◌, ◌≤◌, length, IfOk, MatchResult};
-ghost use Rattle.records.specs.Records.{records};
-ghost use Rattle.records.specs.Rules.{Reading, refused, first as first_failing};
+ghost use Rattle.std.specs.Prelude.{◌≡◌, IfOk};
+ghost use Rattle.records.specs.Rules.{Checked, first};
 ghost use Rattle.sheet.specs.Sheet.{Sheet};
 ghost use Rattle.sheet.specs.Checks.{mask_rules};
-ghost use Rattle.sheet.specs.Reading.{ItemRead, ItemRefused};
+ghost use Rattle.sheet.specs.Forward.{Forward, ItemAnswered};
 
 use crate::placed::Placed;
 use crate::read::SheetReader;
@@ -15,9 +14,7 @@ use records::{Cursor, Refusal, Rule};
 
 // The conditions of a mask are declared.
 fn check_mask(mask: u32, conditions: usize, place: usize) -> Result<(), Refusal>
-    ensures { MatchResult result
-        (λ _. (a : Reading Sheet) → first_failing (mask_rules conditions mask place) a ≡ a)
-        (λ e. (a : Reading Sheet) → first_failing (mask_rules conditions mask place) a ≡ refused e) }
+    ensures { Checked {X = Sheet} (first (mask_rules conditions mask place)) result }
 {
     let undeclared = (0..32u8).find(|&condition| {
         has(mask.into(), condition) && condition as usize >= conditions
@@ -32,10 +29,8 @@ impl<'l, L: Lattice> SheetReader<'l, L> {
     // Reads a permit with its two trees into the table.
     pub(crate) fn read_permit<'a>(&mut self, item: Placed<'a>) -> Result<Cursor<'a>, Refusal>
         ensures same { self.new.lattice ≡ self.old.lattice }
-        ensures forward { IfOk result (λ p. length p.left.now ≤ length item.entry.behind.left.now) }
-        ensures answer { item.entry.record.letter ≡ 82 → MatchResult result
-            (λ p. ItemRead (L.Lattice.lattice self.old.lattice.now) self.old.table self.new.table item.entry.place item.entry.record (records item.entry.behind.left.now) p.place (records p.left.now))
-            (λ e. ItemRefused (L.Lattice.lattice self.old.lattice.now) self.old.table item.entry.place item.entry.record (records item.entry.behind.left.now) e) }
+        ensures forward { IfOk result (λ p. Forward item.entry p) }
+        ensures answer { item.entry.record.letter ≡ 82 → ItemAnswered (L.Lattice.lattice self.old.lattice.now) self.old.table self.new.table item.entry result }
     {
         let number = self.table.permits;
         let conditions = item.numbered(number, 8)?;

@@ -32,6 +32,16 @@ impl<'a> Placed<'a> {
         })
     }
 
+    // Refuses where the rest of the record's fields is not zero.
+    pub(crate) fn check_zero(self, rest: bool) -> Result<(), Refusal>
+        ensures { result ≡ judged (rule 4 self.entry.place 0 rest ∷ []) tt }
+    {
+        if !rest {
+            return Err(Rule::SheetFields.at(self.place, 0));
+        }
+        Ok(())
+    }
+
     // The record has the next number after so many of its kind, of which there may be so many.
     pub(crate) fn check_number(self, count: usize, limit: usize) -> Result<(), Refusal>
         ensures { result ≡ judged (rule 5 self.entry.place 0 (self.entry.record.a == count && nat_lt self.entry.record.a limit) ∷ []) tt }
@@ -48,9 +58,7 @@ impl<'a> Placed<'a> {
         ensures { result ≡ judged (numbered_rules self.entry.record self.entry.place count limit) self.entry.record.n }
     {
         let record = self.record;
-        if record.b != 0 || record.c != 0 {
-            return Err(Rule::SheetFields.at(self.place, 0));
-        }
+        self.check_zero(record.b == 0 && record.c == 0)?;
         self.check_number(count, limit)?;
         Ok(record.n)
     }

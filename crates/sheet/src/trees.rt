@@ -1,10 +1,11 @@
 // The trees of policies.
-ghost use Rattle.std.specs.Prelude.{◌≡◌, ◌<◌, [], ◌∷◌, length, nat_le, IfOk, MatchResult};
+ghost use Rattle.std.specs.Prelude.{◌≡◌, [], ◌∷◌, nat_le, IfOk, MatchResult};
 ghost use Rattle.records.specs.Records.{records};
 ghost use Rattle.records.specs.Rules.{judged, rule};
 ghost use Rattle.policy.specs.Rows.{blank};
 ghost use Rattle.sheet.specs.Checks.{leaf_rules, node_rules};
 ghost use Rattle.sheet.specs.Reading.{TreeRefused, TreeRead};
+ghost use Rattle.sheet.specs.Forward.{TreeForward};
 
 use crate::letters::part_at;
 use crate::placed::Placed;
@@ -29,9 +30,7 @@ impl<'l, L: Lattice> SheetReader<'l, L> {
         ensures { let r = leaf.entry.record in result ≡ judged (leaf_rules r leaf.entry.place depth ((L.Lattice.lattice self.now.lattice.now).known r.n)) r.n }
     {
         let record = leaf.record;
-        if record.a != 0 || record.b != 0 || record.c != 0 {
-            return Err(Rule::SheetFields.at(leaf.place, 0));
-        }
+        leaf.check_zero(record.a == 0 && record.b == 0 && record.c == 0)?;
         if !self.lattice.known(record.n) {
             return Err(Rule::KnownLevel.at(leaf.place, record.n));
         }
@@ -39,14 +38,12 @@ impl<'l, L: Lattice> SheetReader<'l, L> {
         Ok(record.n)
     }
 
-    // An erasing node's condition.
+    // A wiping node's condition.
     fn check_node(&self, node: Placed, depth: u8) -> Result<u8, Refusal>
         ensures { let r = node.entry.record in result ≡ judged (node_rules r node.entry.place depth self.now.table.conditions) r.a }
     {
         let record = node.record;
-        if record.b != 0 || record.c != 0 || record.n != 0 {
-            return Err(Rule::SheetFields.at(node.place, 0));
-        }
+        node.check_zero(record.b == 0 && record.c == 0 && record.n == 0)?;
         if record.a as usize >= self.table.conditions {
             return Err(Rule::DeclaredCondition.at(node.place, record.a.into()));
         }
@@ -56,7 +53,7 @@ impl<'l, L: Lattice> SheetReader<'l, L> {
 
     // Reads a policy: its tree's row, and the cursor behind the tree.
     pub(crate) fn read_tree<'a>(&self, cursor: Cursor<'a>) -> Result<(Row, Cursor<'a>), Refusal>
-        ensures forward { IfOk result (λ p. length p.1.left.now < length cursor.entry.left.now) }
+        ensures forward { IfOk result (λ p. TreeForward cursor.entry p.1) }
         ensures answer { MatchResult result
             (λ p. TreeRead (L.Lattice.lattice self.now.lattice.now) self.now.table.conditions cursor.entry.place 1 0 (records cursor.entry.left.now) blank p.0 p.1.place (records p.1.left.now))
             (λ e. TreeRefused (L.Lattice.lattice self.now.lattice.now) self.now.table.conditions cursor.entry.place 1 (records cursor.entry.left.now) e) }
@@ -75,7 +72,7 @@ impl<'l, L: Lattice> SheetReader<'l, L> {
         guard: u16,
         row: &mut Row,
     ) -> Result<Cursor<'a>, Refusal>
-        ensures forward { IfOk result (λ p. length p.left.now < length cursor.entry.left.now) }
+        ensures forward { IfOk result (λ p. TreeForward cursor.entry p) }
         ensures answer { MatchResult result
             (λ p. TreeRead (L.Lattice.lattice self.now.lattice.now) self.now.table.conditions cursor.entry.place depth guard (records cursor.entry.left.now) row.old row.new p.place (records p.left.now))
             (λ e. TreeRefused (L.Lattice.lattice self.now.lattice.now) self.now.table.conditions cursor.entry.place depth (records cursor.entry.left.now) e) }
