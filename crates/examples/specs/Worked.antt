@@ -71,11 +71,11 @@ pub record ReadersMeet : Type 0 where
   pub fewer_above : Below reader_sets 3 2
   pub others_not : reader_sets.below 3 6 ≡ false
 
--- condition 0 at level 0, and variable 0 with three erasing nodes one below the other
+-- condition 0 at level 0, and variable 0 with three wiping nodes one below the other
 abbrev three_deep : List Record
 three_deep = condition_record 0 0 ∷ variable_record 0 false ∷ erase_record 0 ∷ erase_record 0 ∷ erase_record 0 ∷ []
 
--- A leaf may stand at depth 4. An erasing node may too: the sheet is then only unfinished; but the leaf below it may not.
+-- A leaf may stand at depth 4. An wiping node may too: the sheet is then only unfinished; but the leaf below it may not.
 pub record TreesAreFourDeep : Type 0 where
   pub leaf_at_four : (sh : Sheet) × (sheet_in (chain 3) (bytes (three_deep ++ (leaf_record 0 ∷ leaf_record 0 ∷ leaf_record 0 ∷ leaf_record 0 ∷ []))) ≡ accepted sh)
   pub node_at_four : sheet_in (chain 3) (bytes (three_deep ++ (erase_record 0 ∷ []))) ≡ refused_by 3 6 0

@@ -15,4 +15,3 @@ pub mod Laws
 pub mod Sheets
 pub mod Examples
 pub mod Sample
-pub mod Needed
