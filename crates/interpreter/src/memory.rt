@@ -11,7 +11,7 @@ use policy::has;
 use store::Store;
 
 /// The memory of a machine: its values, and the conditions that are up, as a mask.
-// Masks stay beside it: they belong to the sheet, which a box keeps apart.
+// Masks stay beside it: a box keeps them with its sheet, and lending them to a memory for each call would be no plainer.
 #[derive(Drop)]
 pub struct Memory<S: Store> {
     pub store: S,

@@ -63,6 +63,7 @@ impl<'l, L: Lattice> SheetReader<'l, L> {
         Ok((row, behind))
     }
 
+    // Depth, guard and row apart: each changes on its own on the way down, so a struct of them is no plainer.
     // Reads the tree at the cursor, whose root has the given depth. Its leaves go into the row, each with the conditions
     // on whose later side it lies. Answers the cursor behind the tree.
     fn read_part<'a>(

@@ -29,7 +29,7 @@ impl From<&VariableRow> for Access {
 /// An accepted sheet: the levels of its conditions, the access to each variable, and what may flow where.
 #[derive(Clone, Copy)]
 pub(crate) struct KeptSheet {
-    // Tables beside the masks, which are of another crate and serve programs alone; no heap, so all have fixed room.
+    // Tables beside the masks, whose type says what may flow and not who may know; no heap, so all have fixed room.
     pub(crate) levels: [u32; 16],
     pub(crate) access: [Access; 64],
     pub(crate) masks: FlowMasks,

@@ -10,7 +10,7 @@ pub(crate) struct Entry {
 }
 
 impl Entry {
-    // Keeps no value.
+    // Keeps no value, at a place that no store has: what the image shows of it is fixed, so it is no default.
     pub(crate) const UNUSED: Entry = Entry {
         place: 255,
         value: 0,

@@ -112,7 +112,7 @@ mod tests {
     fn sparse_full_and_empty(rt: HostRuntime) {
         let mut store = SparseStore::new();
         let mut table = [0; 64];
-        // By number: each turn compares the whole table.
+        // By number, here and below: each turn changes the table and compares the whole of it.
         for place in (0..64).rev() {
             table[place] = -7;
             assert!(rt; store.put(place, -7));
