@@ -5,7 +5,7 @@ ghost use Rattle.bundle.specs.Outcomes.{outcome, occurrences};
 use std::alloc::AllocError;
 use stream::Answer;
 
-// The number of the rule that refused, if one did: by number, as a refusal has it.
+// The number of the rule that refused, if one did: by number, as a refusal has it. No From: Option and Answer are of other crates.
 fn outcome_of(answer: &Answer) -> Option<u8>
     ensures { result ≡ outcome answer.now }
 {
