@@ -42,7 +42,7 @@ pub trait Store: Sized + Drop {
         ensures { result ≡ length (image (values self.now)) };
 
     /// The image's byte at a position, or 0 beyond the image.
-    // No Option: who asks reads as many bytes as `image_len` says.
+    // No Option: a box reads as many bytes as `image_len` says.
     fn image_byte(&self, at: usize) -> u8
         ensures { result ≡ slice_index (image (values self.now)) at };
 

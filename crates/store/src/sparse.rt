@@ -102,6 +102,7 @@ impl Store for SparseStore {
     }
 
     fn image_byte(&self, at: usize) -> u8 {
+        // As in the dense store, but for the size of what stands at a place.
         match self.entries.get(at / 5) {
             Some(entry) => <[u8; 5]>::from(*entry)[at % 5],
             None => 0,
