@@ -108,10 +108,6 @@ module _ (m : FlowMasks) (pc : Masks) (opened : ℕ) (inner : Option Innermost) 
 
 -- ── where a block ends ──
 
-pub forward_ended : (inner : Option Innermost) (a b : Cursor) → inner ≡ None → SameEnd a b → a.place ≤ b.place → length b.left.now < 8 → BlockForward inner a b
-forward_ended None a b e s l h = (s, l, h)
-forward_ended (Some i) a b e s l h = absurd (cc e)
-
 module _ (m : FlowMasks) (pc : Masks) (opened : ℕ) where
   pub block_marked : (inner : Option Innermost) {start place next : ℕ} {rs left rest : List Record} {xs ys : List Instruction} (r : Record) → Passed m pc opened inner place r Mark
       → Reads m pc opened inner start rs xs ys place left → left ≡ r ∷ rest → next ≡ place + 1 → BlockRead m pc opened inner start rs xs ys (end_of inner next) rest
@@ -123,10 +119,6 @@ module _ (m : FlowMasks) (pc : Masks) (opened : ℕ) where
         reads = subst (λ k. Reads m pc opened (Some i) start rs xs ys k left) q R;
         ends = (r, e, subst (λ k. Passed m pc opened (Some i) k r Mark) q p);
       }
-
-  pub forward_marked : (inner : Option Innermost) {place : ℕ} (a b : Cursor) (r : Record) → Passed m pc opened inner place r Mark → SameEnd a b → a.place < b.place → BlockForward inner a b
-  forward_marked None a b r p e l = absurd (kind_found (Some Mark) r.letter None p.is)
-  forward_marked (Some i) a b r p e l = (e, l)
 
   pub block_ended : (inner : Option Innermost) {start place : ℕ} {rs left : List Record} {xs ys : List Instruction} → inner ≡ None → Reads m pc opened inner start rs xs ys place left → left ≡ []
       → BlockRead m pc opened inner start rs xs ys (end_of inner place) left

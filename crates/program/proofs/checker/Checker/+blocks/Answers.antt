@@ -13,32 +13,11 @@ check_block-returns-in_err-kind-clause-answer t c =
     let i = c.loop-first.invariant in
     at_err _ _ _ _ c.from_residual.ensures.1 (steps.refused_after _ _ _ _ i.reads (steps.refused_as _ _ _ _ c.in-Some.ensures.2 (steps.refused_under i.masks _ _ i.context (c.in_err-kind.ensures (records c.in-Some.behind.left.now)))))
 
-pub check_block-returns-in-Mark-clause-forward : goal.check_block-returns-in-Mark-clause-forward
-check_block-returns-in-Mark-clause-forward t c =
-    let i = c.loop-first.invariant in
-    let p = steps.passed_under i.masks c.args.block.opened c.args.block.innermost i.context c.in-Mark.is c.in_ok-kind.ensures in
-    steps.forward_marked _ _ _ c.args.block.innermost _ _ _ p (omega (arith, i.same_end, c.in-Some.ensures.0, c.in-Some.ensures.1)) (omega (arith, i.onward, c.in-Some.ensures.0))
-
 pub check_block-returns-in-Mark-clause-answer : goal.check_block-returns-in-Mark-clause-answer
 check_block-returns-in-Mark-clause-answer t c =
     let i = c.loop-first.invariant in
     let p = steps.passed_under i.masks c.args.block.opened c.args.block.innermost i.context c.in-Mark.is c.in_ok-kind.ensures in
     steps.block_kept (steps.block_marked _ _ _ c.args.block.innermost _ p i.reads c.in-Some.ensures.2 c.in-Some.ensures.0) (search rules)
-
-pub check_block-invariant_of-command : goal.check_block-invariant_of-command
-check_block-invariant_of-command t c =
-    let i = c.loop-first.invariant in
-    record { next = c.in-Some.ensures.0; room = omega (arith, i.same_end, c.in-Some.ensures.0, c.in-Some.ensures.1); nested = omega (arith, i.onward) }
-
-pub check_block-check_command-requires : goal.check_block-check_command-requires
-check_block-check_command-requires t c = let i = c.loop-first.invariant in (omega (arith, i.same_end, i.onward, c.in-Some.ensures.1), tt)
-
-pub check_block-returns-in_err-ahead-in_default-2-clause-answer : goal.check_block-returns-in_err-ahead-in_default-2-clause-answer
-check_block-returns-in_err-ahead-in_default-2-clause-answer t c =
-    let i = c.loop-first.invariant in
-    at_err _ _ _ _ c.from_residual-in_err-ahead-in_default-2.ensures.1
-    (steps.refused_after _ _ _ _ i.reads (steps.refused_as _ _ _ _ c.in-Some.ensures.2
-    (steps.refused_under i.masks _ _ i.context (c.in_err-ahead-in_default-2.ensures.answer c.args.block.innermost c.in_ok-kind.ensures c.in_default-2.not-Mark))))
 
 pub check_block-loop-first-preserved : goal.check_block-loop-first-preserved
 check_block-loop-first-preserved t c =
@@ -53,11 +32,6 @@ check_block-loop-first-preserved t c =
           steps.reads_more _ _ _ _ i.reads (steps.reads_as _ _ _ _ c.in-Some.ensures.2
           (steps.reads_under i.masks _ _ i.context (c.in_ok-ahead-in_default-2.ensures.answer c.args.block.innermost c.in_ok-kind.ensures c.in_default-2.not-Mark)));
     }
-
-pub check_block-returns-in-None-clause-forward : goal.check_block-returns-in-None-clause-forward
-check_block-returns-in-None-clause-forward t c =
-    let i = c.loop-first.invariant in
-    steps.forward_ended c.args.block.innermost _ _ c.in-None.is i.same_end i.onward c.in_default.ensures
 
 pub check_block-returns-in-None-clause-answer : goal.check_block-returns-in-None-clause-answer
 check_block-returns-in-None-clause-answer t c =
