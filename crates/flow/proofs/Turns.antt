@@ -1,13 +1,11 @@
 -- One turn of a loop that decides a bit of a mask. Assumes nothing.
-use Rattle.std.proofs.Common.{◌≡◌, ℕ, zero, suc, ◌+◌, ◌*◌, ◌%◌, ◌^◌, ◌<◌, Bool, true, false, cond, ◌||◌, eqb, ◌≢◌, List, length, get_or, set, replicate, sym, refl, ap, ◌∙◌, subst, inl, inr, arith, length-set, below_more}
+use Rattle.std.proofs.Common.{◌≡◌, ℕ, ◌+◌, ◌*◌, ◌%◌, ◌^◌, ◌<◌, Bool, true, false, cond, ◌||◌, eqb, sym, refl, ap, ◌∙◌, subst, inl, inr, arith, below_more}
 use lib.Bits.{bit_or}
-use lib.ListN.{length-replicate}
 use Rattle.std.proofs.lemmas.Nat.{one_shl}
-use Rattle.std.proofs.lemmas.List.{get_or-set_same, get_or-set_other}
 use Rattle.std.proofs.lemmas.Bool.{eq-eqb, ne_eqb, cases_eq}
 use Rattle.policy.specs.Masks.{bit}
 use Rattle.policy.proofs.Masks.{bit_or_lem, bit_pow, bit_zero}
-use Rattle.flow.specs.TableFlows.{EachBit, EachItem}
+use Rattle.flow.specs.TableFlows.{EachBit}
 
 pub bits_none : (P : ℕ → Bool → Type 0) → EachBit 0 P 0
 bits_none P = record { below = λ i h. absurd (omega arith); beyond = λ i h. bit_zero i }

@@ -1,9 +1,7 @@
 // The declared items of a table, and what is decided of each of them: as a mask, or as an array.
 ghost use Rattle.std.specs.Prelude.{◌≡◌, ◌≤◌, length, min, take, slice_index_or};
 ghost use Rattle.std.specs.Fn.{FnReturnsAt};
-ghost use Rattle.flow.specs.TableFlows.{EachBit, MadeAt, MadeOfEach};
-
-use std::array;
+ghost use Rattle.flow.specs.TableFlows.{EachBit, MadeOfEach};
 
 // The first items, as many as are declared; all of them where more are declared than there are.
 pub(crate) fn declared<T>(items: &[T], count: usize) -> &[T]
@@ -28,19 +26,17 @@ pub(crate) fn mask_where<T, F: Fn(&T) -> bool>(items: &[T], test: F) -> u64
 }
 
 // What is made of each item, and nothing beyond them.
-pub(crate) fn made_of<T, U: Default, F: Fn(&T) -> U, const N: usize>(items: &[T], make: F) -> [U; N]
+pub(crate) fn made_of<T, U: Copy + Default, F: Fn(&T) -> U, const N: usize>(
+    items: &[T],
+    make: F,
+) -> [U; N]
     requires { F.IsAlwaysCallable make }
     ensures { MadeOfEach (FnReturnsAt F.Fn make) U.is_default items.now result }
 {
-    array::from_fn(
-        |place|
-            requires { F.IsAlwaysCallable make }
-            ensures { MadeAt (FnReturnsAt F.Fn make) U.is_default items.entry.now place result }
-        {
-            match items.get(place) {
-                Some(item) => make(item),
-                None => U::default(),
-            }
-        },
-    )
+    let mut made = [U::default(); N];
+    let within = &items[..items.len().min(N)];
+    for (place, item) in within.iter().enumerate() {
+        made[place] = make(item);
+    }
+    made
 }

@@ -1,12 +1,12 @@
 -- A program as a list of instructions with jumps, one at a time, and that it does what its command does.
-use Rattle.std.proofs.Common.{◌≡◌, ℕ, zero, suc, ◌+◌, ◌-◌, ◌<◌, ◌≤◌, Bool, true, false, cond, List, [], ◌∷◌, ◌++◌, length, get_or, pos, sym, refl, ap, ◌∙◌, subst, arith, length-append, length-take-le, get_or-take}
+use Rattle.std.proofs.Common.{◌≡◌, ℕ, zero, suc, ◌+◌, ◌-◌, ◌<◌, ◌≤◌, Bool, true, false, cond, List, [], ◌∷◌, ◌++◌, length, get_or, sym, refl, ap, ◌∙◌, subst, arith, length-append, length-take-le, get_or-take}
 use Rattle.sheet.specs.Sheet.{Sheet}
 use Rattle.machine.specs.Command.{Command, skip, ◌⨾◌, set, combine, release, raise, if_variable, if_condition, while}
 use Rattle.machine.specs.Memory.{Memory}
 use Rattle.machine.specs.Run.{Outcome, done, spent, Release, after, and_then, is_zero, run}
 use Rattle.machine.proofs.Loops.{while_law}
 use Rattle.program.specs.declared.kept.Instruction.{Instruction}
-use Rattle.program.specs.declared.kept.Instruction.TheVariants.{Set, IfVariable, IfCondition, Jump, End, Loop, Again}
+use Rattle.program.specs.declared.kept.Instruction.TheVariants.{IfVariable, IfCondition, Jump, End, Loop, Again}
 use Rattle.program.specs.declared.kept.Program.{Program}
 use Rattle.program.specs.Kept.{linked, size, Placed, Keeps}
 use Rattle.program.proofs.LetterSteps.{sign_of-kept}
@@ -14,7 +14,7 @@ use Rattle.interpreter.specs.Parts.{plain, memory_after}
 
 -- what a list gives beyond its end
 abbrev unset : Instruction
-unset = Set 0 (pos 0)
+unset = End
 
 -- the end of a run, without what permits stored
 pub data Ending : Type 0 where

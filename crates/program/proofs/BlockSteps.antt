@@ -6,7 +6,6 @@ use Rattle.std.proofs.lemmas.Bool.{cond-false, lt-ltb}
 use Rattle.lattice.specs.Lattice.{Lattice}
 use Rattle.records.specs.declared.Record.{Record}
 use Rattle.records.specs.declared.refusal.Refusal.{Refusal}
-use Rattle.records.specs.declared.cursor.Cursor.{Cursor}
 use Rattle.records.specs.Refusals.{refusal}
 use Rattle.sheet.specs.Sheet.{Sheet}
 use Rattle.machine.specs.Command.{Command, skip, ◌⨾◌, set, combine, release, raise, if_variable, if_condition, while}
@@ -26,7 +25,6 @@ use Rattle.program.specs.Rules.{Test, on_variable, on_condition, branch, Block, 
 use Rattle.program.specs.Contexts.{with_variable, with_conditions, inside_of}
 use Rattle.program.specs.Letters.{innermost_of}
 use Rattle.program.specs.Reading.{context_of, Declared, Alike, Refused, Named, Passed, opening, Branches, Stand, Reads, BlockRead, end_of}
-use Rattle.program.specs.Forward.{SameEnd, BlockForward}
 use Rattle.program.proofs.ContextMasks.{masked_variable, masked_condition}
 use Rattle.program.proofs.LetterSteps.{kept_sign-of, kind_found}
 use Rattle.program.proofs.Reaches.{declared_variable, declared_condition}

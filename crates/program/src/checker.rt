@@ -5,12 +5,12 @@ use crate::context::Context;
 use crate::kept::Instruction;
 use flow::FlowMasks;
 
-// A sheet's masks, the context that commands stand under, and the instructions kept so far.
+// The context that commands stand under, a sheet's masks, and the instructions kept so far.
 #[derive(Drop)]
 pub(crate) struct Checker<'m> {
-    pub(crate) masks: &'m FlowMasks,
     // Here, so that no command takes it as a parameter: the guard puts the former one back.
     pub(crate) context: Context,
+    pub(crate) masks: &'m FlowMasks,
     pub(crate) instructions: [Instruction; 256],
     ghost full: { length instructions ≡ 256 },
 }

@@ -14,6 +14,9 @@ pub enum Sign {
 /// What the program does at one place, and how far it jumps.
 #[derive(Clone, Copy, Debug, PartialEq, Eq)]
 pub enum Instruction {
+    /// Ends a test; also stands where no instruction is kept.
+    // First, so that its tag is zero and a program of these alone is one fill of memory.
+    End,
     /// Writes a constant.
     Set {
         target: u8,
@@ -50,8 +53,6 @@ pub enum Instruction {
     Jump {
         way: u8,
     },
-    /// Ends a test; also stands where no instruction is kept.
-    End,
     /// Goes on behind the `Again`, `way` places on, where the variable is zero.
     Loop {
         variable: u8,

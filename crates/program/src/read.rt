@@ -23,8 +23,8 @@ pub fn read_program(masks: &FlowMasks, bytes: &[u8]) -> Result<Program, Refusal>
     }
     let inside = Context::default();
     let mut checker = Checker {
-        masks,
         context: inside,
+        masks,
         instructions: [Instruction::End; 256],
     };
     let outermost = Block {

@@ -1,6 +1,6 @@
 // Where a reader stands in a row of records.
-ghost use Rattle.std.specs.Prelude.{◌≡◌, ◌+◌, ◌*◌, ◌^◌, ◌<◌, ◌∷◌, length, MatchOption};
-ghost use Rattle.records.specs.Records.{records};
+ghost use Rattle.std.specs.Prelude.{◌≡◌, ◌+◌, ◌*◌, ◌^◌, ◌<◌, [], ◌∷◌, ◌++◌, length, MatchOption};
+ghost use Rattle.records.specs.Records.{bytes as written, records};
 
 use crate::{Record, next_record};
 
@@ -30,7 +30,8 @@ impl<'a> Cursor<'a> {
             (length self.entry.left.now < 8)
             (λ p. (p.1.place ≡ self.entry.place + 1)
             × (length self.entry.left.now ≡ 8 + length p.1.left.now)
-            × (records self.entry.left.now ≡ p.0 ∷ records p.1.left.now)) }
+            × (records self.entry.left.now ≡ p.0 ∷ records p.1.left.now)
+            × (self.entry.left.now ≡ written (p.0 ∷ []) ++ p.1.left.now)) }
     {
         let (first, left) = next_record(self.left)?;
         let place = self.place + 1;

@@ -35,7 +35,11 @@ fn known_level<L: Lattice>(lattice: &L, level: u32) -> Result<u32, Rule>
 fn access_to(table: &SheetTable) -> [Access; 64]
     ensures { (v : ℕ) → v < 64 → slice_index_or result v no_access ≡ access_of (slice_index_or table.now.rows v blank_variable) }
 {
-    table.rows.map(|row| Access::from(&row))
+    let mut access = [Access::default(); 64];
+    for (variable, row) in table.rows.iter().enumerate() {
+        access[variable] = Access::from(row);
+    }
+    access
 }
 
 // Is the present level of every variable below this one?

@@ -7,7 +7,7 @@ use records::Rule;
 use sheet::VariableRow;
 
 /// Who may know a variable for now, by its present level, and whether the outside may feed it.
-#[derive(Clone, Copy)]
+#[derive(Clone, Copy, Default)]
 pub(crate) struct Access {
     pub(crate) present: u32,
     pub(crate) fed: bool,

@@ -2,8 +2,19 @@
 ghost use Rattle.std.specs.Prelude.{◌≡◌, ◌+◌, ◌-◌, ◌<◌, ◌≤◌, ◌∷◌, ◌++◌, length, take, drop};
 ghost use Rattle.std.specs.List.{between};
 ghost use Rattle.store.specs.Entries.{unused};
+ghost use Rattle.store.specs.Positions.{before};
 
 use crate::entry::Entry;
+
+// How many entries stand before the first whose place is not below this one.
+pub(crate) fn count_below(entries: &[Entry], place: u8) -> usize
+    ensures { result ≡ before place entries.now }
+{
+    entries
+        .iter()
+        .take_while(|entry| entry.place < place)
+        .count()
+}
 
 // Puts an entry at a position, moving the used entries from there on up by one.
 pub(crate) fn insert(entries: &mut [Entry], used: usize, at: usize, new: Entry)

@@ -5,6 +5,8 @@ use Rattle.stream.specs.declared.answers.Answer.{Answer}
 use Rattle.stream.specs.declared.answers.Answer.TheVariants.{Number, Image, Done, Spent, Refused}
 use Rattle.stream.specs.declared.image.ImageBytes.{ImageBytes}
 use Rattle.stream.specs.declared.answers.Line.{Line}
+use Rattle.stream.specs.declared.transcript_line.TranscriptLine.{TranscriptLine}
+use Rattle.stream.specs.declared.transcript_line.TranscriptLine.TheVariants as line
 use Rattle.stream.specs.declared.transcript.Transcript.{Transcript}
 use Rattle.records.specs.Refusals.{refusal_text}
 
@@ -33,3 +35,12 @@ lines_from n (a ∷ rest) = text (record { count = n; answer = a }) ++ (codes "\
 
 abbrev pub transcript_text : Transcript → List ℕ
 transcript_text t = lines_from 0 t.answers.now ++ cond t.ended [] (codes "stop\n")
+
+-- one line of a transcript, and lines one after another, each with its end
+abbrev pub line_text : TranscriptLine → List ℕ
+line_text (line.Answer l) = text l
+line_text line.Stop = codes "stop"
+
+abbrev pub lines_text : List TranscriptLine → List ℕ
+lines_text [] = []
+lines_text (l ∷ ls) = line_text l ++ (codes "\n" ++ lines_text ls)

@@ -8,6 +8,7 @@ mod image;
 mod lines;
 mod segment;
 mod transcript;
+mod transcript_line;
 
 pub use answers::{Answer, Line};
 pub use calls::Call;
@@ -15,3 +16,4 @@ pub use decode::next_call;
 pub use image::{IMAGE_ROOM, ImageBytes};
 pub use segment::{Malformed, Segment};
 pub use transcript::Transcript;
+pub use transcript_line::{Lines, TranscriptLine};

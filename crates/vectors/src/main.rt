@@ -30,11 +30,14 @@ fn main(rt: HostRuntime) -> io::Result<()> {
         let calls = decode::<Call>(rt.alloc(), stream.calls)?;
         let mut answers = vec![in rt.alloc(); Answer::Number(0); calls.items.len()]?;
         play(setting, &calls.items, &mut answers);
-        println!(rt; "stream {count} {setting}")?;
-        rt.print(Transcript {
+        let transcript = Transcript {
             answers: &answers,
             ended: calls.ended(),
-        })?;
+        };
+        println!(rt; "stream {count} {setting}")?;
+        for line in transcript.lines() {
+            rt.println(line)?;
+        }
         note(&mut outcomes, &answers)?;
     }
     if !streams.ended() {

@@ -1,11 +1,15 @@
-use Rattle.std.proofs.Common.{ℕ, rules, arith}
-use Rattle.std.specs.Fn.{FnReturnsAt}
-use Rattle.flow.specs.TableFlows.{MadeAt}
-use Rattle.flow.proofs.Made.{each_made}
+use Rattle.std.proofs.Common.{◌<◌, length, take, ◌∙◌, arith}
+use Rattle.std.proofs.lemmas.List.{get_or_default}
+use Rattle.flow.proofs.Made.{made_more, made_of_all}
 use Rattle.flow.proofs.items.made_of.Goals as goal
 
+pub loop-place-preserved : goal.loop-place-preserved
+loop-place-preserved g c =
+    let xs = take c.min.result c.args.items.now in
+    let i = c.loop-place.place in
+    let within : i < length xs = c.loop-place-test.true in
+    made_more _ _ _ xs i c.loop-place.made c.make.result c.loop-place.invariant
+    (λ d. record { shown = _; shows = c.index-within-place.is ∙ get_or_default xs i _ d within; says = record { met = c.make.ensures } })
+
 pub returns : goal.returns
-returns g c = λ i e h.
-    let ys = c.from_fn.result in
-    let P = λ (j : ℕ) (y : g.row.U.Denot). MadeAt (FnReturnsAt g.F.Fn c.args.make) g.U.Default.is_default c.args.items.now j y in
-    each_made _ P _ (λ j y q r. (search rules, search rules)) ys 0 _ i e c.from_fn.ensures.items.each (omega arith) (omega arith)
+returns g c = made_of_all _ _ _ c.args.items.now c.min.result c.loop-place.place c.loop-place.made c.min.ensures (omega arith) c.loop-place.invariant
