@@ -7,7 +7,6 @@ ghost use Rattle.flow.specs.Flows.{no_variable_flow};
 ghost use Rattle.interpreter.specs.Meaning.{Enforces, meaning};
 
 use flow::FlowMasks;
-use policy::has;
 use store::Store;
 
 /// The memory of a machine: its values, and the conditions that are up, as a mask.
@@ -16,6 +15,15 @@ use store::Store;
 pub struct Memory<S: Store> {
     pub store: S,
     pub up: u16,
+}
+
+// Whether a mask of conditions has one. In the mask's own width, which a loop tests without widening it.
+#[tactic(auto, using(policy::proofs::Masks::bit_test))]
+fn holds(mask: u16, condition: u8) -> bool
+    requires { condition < 16 }
+    ensures { result ≡ bit condition mask }
+{
+    (mask >> condition) & 1 == 1
 }
 
 impl<S: Store> Memory<S> {
@@ -46,12 +54,13 @@ impl<S: Store> Memory<S> {
 
     // Zeroes each variable that the condition wipes.
     fn wipe(&mut self, masks: &FlowMasks, condition: u8)
+        requires { condition < 16 }
         ensures values { (v : ℕ) → slice_index_or (S.Store.values self.new.store) v (pos 0)
             ≡ (if nat_lt v 64 && bit condition (slice_index_or masks.now.variable v no_variable_flow).wipers then pos 0 else slice_index_or (S.Store.values self.old.store) v (pos 0)) }
         ensures up { self.new.up ≡ self.old.up }
     {
         for (variable, flow) in masks.variable.iter().enumerate() {
-            if has(flow.wipers.into(), condition) {
+            if holds(flow.wipers, condition) {
                 self.store.put(variable, 0);
             }
         }

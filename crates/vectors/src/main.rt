@@ -24,7 +24,8 @@ fn main(rt: HostRuntime) -> io::Result<()> {
     let mut input = Vec::new(rt.alloc());
     rt.stdin().read_to_end(&mut input)?;
     let streams = split(rt.alloc(), &input)?;
-    let mut outcomes = Vec::new(rt.alloc());
+    // Room at once, as no call has fewer than eight bytes: grown step by step, outcomes stand twice in memory at each step.
+    let mut outcomes = Vec::with_capacity(rt.alloc(), input.len() / 8)?;
     for (count, stream) in streams.items.iter().enumerate() {
         let setting = stream.setting;
         let calls = decode::<Call>(rt.alloc(), stream.calls)?;
